@@ -1,0 +1,125 @@
+-- What masks do to the bits of a byte: each mask operation, bit by bit, then a merge.
+-- Assumes nothing.
+use mathlib.Core.Path.{_≡_, _∙_, ap, sym, refl}
+use mathlib.Core.Bool.{Bool, true, false}
+use Prim.Native.Nat.{ℕ, zero, suc, _+_, _-_, _*_, _/_, _%_, _^_, _<_, min, max}
+use native.Mathlib.Nat.{mod-lt, zero-div}
+use native.Mathlib.Omega.{arith}
+use lib.Dec.{T, eqb, eqb→eq, lit<}
+use lib.Bits.{bitAnd, bitOr, and-shr, or-shr, and-mod, or-mod, or-lt, and-le-r, and-mask}
+use borrow.Author.Tests.{eqb-true, eqb-false}
+use Rattle.bits.specs.Bits.{bit, isOn, mergeOf, numberOf, choose}
+use Rattle.bits.specs.Claims.{MergeTakes}
+use Rattle.bits.specs.declared.Bit.{Bit}
+use Rattle.bits.specs.declared.Bit.the-variants.{B0, B1, B2, B3, B4, B5, B6, B7}
+use Rattle.bits.proofs.Every.{every-at2, same-below, same-below2}
+
+-- ---- a choice, by its two cases
+pub choose-ind : {A : Type 0} (P : A → Type 0) (b : Bool) (x y : A) → (b ≡ true → P x) → (b ≡ false → P y) → P (choose b x y)
+choose-ind P true x y f g = f refl
+choose-ind P false x y f g = g refl
+
+-- ---- one bit
+pub number-lt : (b : Bit) → numberOf b < 8
+number-lt B0 = lit< tt
+number-lt B1 = lit< tt
+number-lt B2 = lit< tt
+number-lt B3 = lit< tt
+number-lt B4 = lit< tt
+number-lt B5 = lit< tt
+number-lt B6 = lit< tt
+number-lt B7 = lit< tt
+
+pub number-small : (n : ℕ) (b : Bit) → n ≡ numberOf b → n < 8
+number-small n b e = rw e (number-lt b)
+
+pub bit-lt : (n j : ℕ) → bit n j < 2
+unfolding bit
+bit-lt n j = mod-lt (n / 2 ^ j) (lit< tt)
+
+pub bit-none : (j : ℕ) → bit 0 j ≡ 0
+unfolding bit
+bit-none j = rw zero-div
+
+-- a digit moved up to bit j is that bit
+pub bit-placed : (d j : ℕ) → d < 2 → j < 8 → bit (d * 2 ^ j) j ≡ d
+unfolding bit
+bit-placed = same-below2 2 8 (λ d j. bit (d * 2 ^ j) j) (λ d j. d) tt
+
+-- the lowest digit by a mask
+pub low-digit : (x : ℕ) → bitAnd x 1 ≡ x % 2
+low-digit x = and-mask x 1
+
+-- one bit shifted up stays within the byte
+pub shifted : (d j : ℕ) → d < 2 → j < 8 → d * 2 ^ j % 256 ≡ d * 2 ^ j
+shifted = same-below2 2 8 (λ d j. d * 2 ^ j % 256) (λ d j. d * 2 ^ j) tt
+
+-- ---- masks, bit by bit
+and-digit : ℕ → ℕ → Bool
+and-digit x y = eqb (bitAnd x y) (min x y)
+
+or-digit : ℕ → ℕ → Bool
+or-digit x y = eqb (bitOr x y) (max x y)
+
+pub and-bit : (a b j : ℕ) → bit (bitAnd a b) j ≡ min (bit a j) (bit b j)
+unfolding bit and-digit
+and-bit a b j =
+    ap (λ (x : ℕ). x % 2) (and-shr a b j) ∙ and-mod (a / 2 ^ j) (b / 2 ^ j) 1
+    ∙ eqb→eq _ _ (every-at2 and-digit 2 2 tt (a / 2 ^ j % 2) (b / 2 ^ j % 2) (mod-lt (a / 2 ^ j) (lit< tt)) (mod-lt (b / 2 ^ j) (lit< tt)))
+
+pub or-bit : (a b j : ℕ) → bit (bitOr a b) j ≡ max (bit a j) (bit b j)
+unfolding bit or-digit
+or-bit a b j =
+    ap (λ (x : ℕ). x % 2) (or-shr a b j) ∙ or-mod (a / 2 ^ j) (b / 2 ^ j) 1
+    ∙ eqb→eq _ _ (every-at2 or-digit 2 2 tt (a / 2 ^ j % 2) (b / 2 ^ j % 2) (mod-lt (a / 2 ^ j) (lit< tt)) (mod-lt (b / 2 ^ j) (lit< tt)))
+
+not-bit : (m j : ℕ) → m < 256 → j < 8 → bit (255 - m) j ≡ 1 - bit m j
+unfolding bit
+not-bit = same-below2 256 8 (λ m j. bit (255 - m) j) (λ m j. 1 - bit m j) tt
+
+-- ---- a merge
+kept-digit : ℕ → ℕ → Bool
+kept-digit o b = eqb (max (min o 1) (min b 0)) o
+
+given-digit : ℕ → ℕ → Bool
+given-digit o b = eqb (max (min o 0) (min b 1)) b
+
+-- where the mask has 0 the old bit stays
+pub merge-kept : (o m b j : ℕ) → m < 256 → j < 8 → bit m j ≡ 0 → bit (mergeOf o m b) j ≡ bit o j
+unfolding kept-digit mergeOf
+merge-kept o m b j hm hj e =
+    simp (or-bit, and-bit, not-bit m j hm hj, e) (eqb→eq _ _ (every-at2 kept-digit 2 2 tt (bit o j) (bit b j) (bit-lt o j) (bit-lt b j)))
+
+-- where the mask has 1 the byte's bit is taken
+pub merge-given : (o m b j : ℕ) → m < 256 → j < 8 → bit m j ≡ 1 → bit (mergeOf o m b) j ≡ bit b j
+unfolding given-digit mergeOf
+merge-given o m b j hm hj e =
+    simp (or-bit, and-bit, not-bit m j hm hj, e) (eqb→eq _ _ (every-at2 given-digit 2 2 tt (bit o j) (bit b j) (bit-lt o j) (bit-lt b j)))
+
+-- a merge is a byte, whatever it is given
+pub merge-byte : (o m b : ℕ) → m < 256 → mergeOf o m b < 256
+unfolding mergeOf
+merge-byte o m b h =
+    or-lt 8 (bitAnd o (255 - m)) (bitAnd b m) (omega (arith, and-le-r o (255 - m))) (omega (arith, and-le-r b m))
+
+-- ---- tests and numbers
+abbrev pub one-if : Bool → ℕ
+one-if true = 1
+one-if false = 0
+
+pub bool-same : (a b : Bool) → one-if a ≡ one-if b → a ≡ b
+bool-same true true e = refl
+bool-same true false e = absurd (omega arith)
+bool-same false true e = absurd (omega arith)
+bool-same false false e = refl
+
+pub bit-off : (n j : ℕ) → isOn n j ≡ false → bit n j ≡ 0
+bit-off n j e = omega (arith, bit-lt n j, eqb-false (bit n j) 1 e)
+
+pub bit-on : (n j : ℕ) → isOn n j ≡ true → bit n j ≡ 1
+bit-on n j e = eqb-true (bit n j) 1 e
+
+pub merge-takes : MergeTakes
+merge-takes o m b j hm hj =
+    choose-ind (λ (x : ℕ). bit (mergeOf o m b) j ≡ x) (isOn m j) (bit b j) (bit o j)
+    (λ e. merge-given o m b j hm hj (bit-on m j e)) (λ e. merge-kept o m b j hm hj (bit-off m j e))

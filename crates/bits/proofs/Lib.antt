@@ -1,0 +1,5 @@
+pub mod Every
+pub mod BitLaws
+pub mod FieldLaws
+pub mod Match
+pub mod Tables

@@ -54,3 +54,6 @@ beq-same true true t = refl
 beq-same true false t = absurd t
 beq-same false true t = absurd t
 beq-same false false t = refl
+
+pub same-tests : (n : ℕ) (f g : ℕ → Bool) → T (every (λ k. Bool·beq (f k) (g k)) n) → (k : ℕ) → k < n → f k ≡ g k
+same-tests n f g t k h = beq-same (f k) (g k) (every-at (λ x. Bool·beq (f x) (g x)) n t k h)

@@ -84,7 +84,7 @@ module _ (c : ℕ) (h : c < cells) where
   unfolding asRows bit presentAt writableAt keptAt rows keptByReset
   as-rows = every-at asRows cells tt c h
 
-  present-rows : present c ≡ presentAt c
+  pub present-rows : present c ≡ presentAt c
   unfolding asRows
   present-rows = beq-same (present c) (presentAt c) (both-left (presentSame c) (both (unwritableSame c) (keptSame c)) as-rows)
 

@@ -3,7 +3,6 @@
 ghost use mathlib.Core.Path.{_≡_};
 ghost use Rattle.w83782d_bus_laws.specs.Claims.{WriteClaims, ReadClaims, OpenedClaims};
 ghost use Rattle.w83782d.specs.Monitor.{stateOf, powerOnOf, writeOf, readOf, openedOf};
-
 use w83782d_bus::Latches;
 use w83782d_bus::power_on_in;
 use w83782d_bus::read_in;

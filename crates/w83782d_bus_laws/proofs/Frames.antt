@@ -6,13 +6,13 @@ use mathlib.Core.List.{List, [], _∷_}
 use mathlib.Core.Logic.{_≢_, _⊎_, inl, inr}
 use Prim.Native.Nat.{ℕ, zero, suc, _+_, _-_, _*_, _%_, _^_, _<_, _≤_, min, max}
 use native.Mathlib.Nat.{mod-eq-of-lt}
-use native.Mathlib.Decide.{ℕ-discrete}
+use native.Mathlib.Decide.{ℕ-discrete, decLt}
 use native.Mathlib.Omega.{arith}
 use borrow.Author.Tests.{lt-ltb, eq-eqb, ne-eqb, eqb-true, eqb-false}
 use lib.Bits.{bitAnd, bitOr, and-mask, and-zero-r, or-zero-r}
 use lib.Dec.{T, eqb, eqb→eq, ltb, ltb→lt, lit<}
-use lib.ListN.{length, getD, set, length-set}
-use lib.Seq.{getD-set-same, getD-set-other, set-getD}
+use lib.ListN.{length, getD, set, List·getD-eq-default}
+use lib.Seq.{getD-set-same, getD-set-other, set-getD, set-out}
 use Rattle.bits.specs.Bits.{bit, isOn, choose, mergeOf, change, changes}
 use Rattle.bits.proofs.BitLaws.{choose-ind, bit-lt, bit-on, bit-off, and-bit, or-bit, merge-kept, merge-given, merge-byte}
 use Rattle.bits.proofs.FieldLaws.{and-left}
@@ -164,14 +164,15 @@ reset-state s v e = rw (cell-40, answer-40) (simp e)
 
 pub reset : (s : State) (v : ℕ) → Reset s v
 reset s v e =
-    rw (reset-state s v e)
-    (refl,
-    record {
-      count = reset-count (s .registers);
-      kept = λ c h k. reset-at (s .registers) c h ∙ rw k;
-      restored = λ c h k. reset-at (s .registers) c h ∙ rw k;
-      latches = refl;
-    })
+    rw (reset-state s v e) (
+      refl,
+      record {
+        count = reset-count (s .registers);
+        kept = λ c h k. reset-at (s .registers) c h ∙ rw k;
+        restored = λ c h k. reset-at (s .registers) c h ∙ rw k;
+        latches = refl;
+      },
+    )
 
 -- ---- a read
 read-cells : (rs : List ℕ) (c k : ℕ) → c < length rs → getD (readRegisters rs c) k 0 ≡ choose (eqb k c && (eqb c interruptStatus1 || eqb c interruptStatus2)) 0 (getD rs k 0)
@@ -187,26 +188,28 @@ read-cells rs c k h = go (eqb c interruptStatus1 || eqb c interruptStatus2) (ℕ
 abbrev after-read : List ℕ → ℕ → ℕ → Remote → Remote
 after-read rs c n r = choose (releases rs c n) (releasedOf r) r
 
-set-remote : (rs : List Remote) (m n : ℕ) (r : Remote) → m < length rs → getD (set rs m r) n armed ≡ choose (eqb n m) r (getD rs n armed)
-set-remote rs m n r h = go (ℕ-discrete n m)
+-- (past the end there is none, and `armed` stands in for it on both sides)
+set-remote : (rs : List Remote) (m n : ℕ) → getD (set rs m (releasedOf (getD rs m armed))) n armed ≡ choose (eqb n m) (releasedOf (getD rs n armed)) (getD rs n armed)
+set-remote rs m n = go (ℕ-discrete n m) (decLt m (length rs))
   where
-    go : Dec (n ≡ m) → getD (set rs m r) n armed ≡ choose (eqb n m) r (getD rs n armed)
-    go (yes q) = rw (q, eq-eqb m m refl) (getD-set-same rs m r armed h)
-    go (no k) = simp (ne-eqb n m k) (getD-set-other rs m n r armed k)
+    go : Dec (n ≡ m) → Dec (m < length rs) → getD (set rs m (releasedOf (getD rs m armed))) n armed ≡ choose (eqb n m) (releasedOf (getD rs n armed)) (getD rs n armed)
+    go (no k) d = simp (ne-eqb n m k) (getD-set-other rs m n _ armed k)
+    go (yes q) (yes h) = rw (q, eq-eqb m m refl) (getD-set-same rs m _ armed h)
+    go (yes q) (no h) = rw (q, eq-eqb m m refl, set-out rs m (releasedOf (getD rs m armed)) (omega arith), List·getD-eq-default rs armed {n = m} (omega arith))
 
 -- at most one of the two is released
-either : (l : Latches) (x y : Bool) (n : ℕ) → length (l .remote) ≡ 2 → n < 2 → (x ≡ true → y ≡ false)
+either : (l : Latches) (x y : Bool) (n : ℕ) → n < 2 → (x ≡ true → y ≡ false)
     → getD (choose x (withReleased l 0) (choose y (withReleased l 1) l) .remote) n armed ≡ choose (choose (eqb n 0) x y) (releasedOf (getD (l .remote) n armed)) (getD (l .remote) n armed)
-either l true y zero h k o = set-remote (l .remote) 0 0 (releasedOf (getD (l .remote) 0 armed)) (omega arith)
-either l true true (suc n) h k o = absurd (true≢false (o refl))
-either l true false (suc zero) h k o = set-remote (l .remote) 0 1 (releasedOf (getD (l .remote) 0 armed)) (omega arith)
-either l true false (suc (suc n)) h k o = absurd (omega arith)
-either l false true zero h k o = set-remote (l .remote) 1 0 (releasedOf (getD (l .remote) 1 armed)) (omega arith)
-either l false true (suc zero) h k o = set-remote (l .remote) 1 1 (releasedOf (getD (l .remote) 1 armed)) (omega arith)
-either l false true (suc (suc n)) h k o = absurd (omega arith)
-either l false false zero h k o = refl
-either l false false (suc zero) h k o = refl
-either l false false (suc (suc n)) h k o = absurd (omega arith)
+either l true y zero k o = set-remote (l .remote) 0 0
+either l true true (suc n) k o = absurd (true≢false (o refl))
+either l true false (suc zero) k o = set-remote (l .remote) 0 1
+either l true false (suc (suc n)) k o = absurd (omega arith)
+either l false true zero k o = set-remote (l .remote) 1 0
+either l false true (suc zero) k o = set-remote (l .remote) 1 1
+either l false true (suc (suc n)) k o = absurd (omega arith)
+either l false false zero k o = refl
+either l false false (suc zero) k o = refl
+either l false false (suc (suc n)) k o = absurd (omega arith)
 
 only-one : (rs : List ℕ) (c : ℕ) → releases rs c 0 ≡ true → releases rs c 1 ≡ false
 only-one rs c e = rw (eqb-true c (remoteValue 0) (and-left (eqb c (remoteValue 0)) (isInterrupt rs 0) e))
@@ -216,10 +219,10 @@ which rs c zero h = refl
 which rs c (suc zero) h = refl
 which rs c (suc (suc n)) h = absurd (omega arith)
 
-read-remote : (rs : List ℕ) (l : Latches) (c n : ℕ) → length (l .remote) ≡ 2 → n < 2 → getD (readLatches rs l c .remote) n armed ≡ after-read rs c n (getD (l .remote) n armed)
+read-remote : (rs : List ℕ) (l : Latches) (c n : ℕ) → n < 2 → getD (readLatches rs l c .remote) n armed ≡ after-read rs c n (getD (l .remote) n armed)
 unfolding readLatches
-read-remote rs l c n h k =
-    either l (releases rs c 0) (releases rs c 1) n h k (only-one rs c)
+read-remote rs l c n k =
+    either l (releases rs c 0) (releases rs c 1) n k (only-one rs c)
     ∙ ap (λ (b : Bool). choose b (releasedOf (getD (l .remote) n armed)) (getD (l .remote) n armed)) (which rs c n k)
 
 -- a release moves no mark
@@ -263,12 +266,12 @@ leaves s i w a =
       cells = λ k. read-cells (s .registers) c k (omega (arith, w .count));
       chassis = read-chassis (s .registers) (s .latches) c .0;
       marks =
-        record {
-          sensor1 = read-chassis (s .registers) (s .latches) c .1;
-          status = λ n k. ap (λ (r : Remote). r .status) (read-remote (s .registers) (s .latches) c n (w .remotes) k) ∙ released-status (releases (s .registers) c n) (remoteIn s n);
-          output = λ n k. ap (λ (r : Remote). r .output .mark) (read-remote (s .registers) (s .latches) c n (w .remotes) k) ∙ released-mark (releases (s .registers) c n) (remoteIn s n);
-        };
-      asserted = λ n k. ap (λ (r : Remote). r .output .asserted) (read-remote (s .registers) (s .latches) c n (w .remotes) k) ∙ released-asserted (releases (s .registers) c n) (remoteIn s n);
+          record {
+            sensor1 = read-chassis (s .registers) (s .latches) c .1;
+            status = λ n k. ap (λ (r : Remote). r .status) (read-remote (s .registers) (s .latches) c n k) ∙ released-status (releases (s .registers) c n) (remoteIn s n);
+            output = λ n k. ap (λ (r : Remote). r .output .mark) (read-remote (s .registers) (s .latches) c n k) ∙ released-mark (releases (s .registers) c n) (remoteIn s n);
+          };
+      asserted = λ n k. ap (λ (r : Remote). r .output .asserted) (read-remote (s .registers) (s .latches) c n k) ∙ released-asserted (releases (s .registers) c n) (remoteIn s n);
     })
 
 -- ---- what a read shows: masks of the cell, bit by bit

@@ -17,11 +17,10 @@ use Rattle.w83782d_bus.specs.declared.Latches.{Latches}
 use Rattle.w83782d_bus.specs.Map.{cells, presentAt, writableAt, powerOnAt, keptAt, configuration, interruptStatus1, interruptStatus2, chassisClear, vidFanDivisor, deviceId, bankSelect, vendorId, chipId, realTimeStatus2, remoteValue}
 use Rattle.w83782d_bus.specs.Bus.{State, state, latches, bankOf, reachOf, storedBits, isCommand, writeOf, Written, readOf, Read, shownOf, releases, openedLatches}
 
--- ---- every state of the monitor: 112 cells, each a byte, and two remote sensors
+-- ---- every state of the monitor: 112 cells, each a byte, and any latches
 pub record Whole (s : State) : Type 0 where
   pub count : length (s .registers) ≡ cells
   pub bytes : (c : ℕ) → getD (s .registers) c 0 < 256
-  pub remotes : length (s .latches .remote) ≡ 2
 
 abbrev pub isOff : ℕ → ℕ → Bool
 isOff n j = eqb (bit n j) 0

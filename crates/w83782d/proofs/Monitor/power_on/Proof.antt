@@ -1,0 +1,16 @@
+use borrow.Author.Needs.{needs}
+use Rattle.w83782d.proofs.Faces.{power-on-face}
+use Rattle.w83782d.proofs.Monitor.power_on.Statement.{statement}
+use Rattle.w83782d.proofs.Monitor.power_on.Tie as tie
+
+slice-aggregate-power-on-in : tie.Need-slice-aggregate-power-on-in
+slice-aggregate-power-on-in c = search needs
+
+power-on-in-requires : tie.Need-power-on-in-requires
+power-on-in-requires c κs = search needs
+
+returns : tie.Need-returns
+returns c = search (needs, power-on-face)
+
+pub power-on-spec : {M : Type 1} → statement M
+power-on-spec = tie.close (tie.spec slice-aggregate-power-on-in power-on-in-requires returns)

@@ -1,0 +1,27 @@
+use borrow.Author.Needs.{needs}
+use Prim.Native.Nat.{ℕ}
+use mir.Val.{Fits}
+use mir.Syntax.{w8}
+use lib.ListN.{getD}
+use Rattle.w83782d.specs.Monitor.{stateOf}
+use Rattle.w83782d.proofs.Faces.{write-face}
+use Rattle.w83782d_bus_laws.proofs.Proved.{write-claims}
+use Rattle.w83782d.proofs.Monitor.write.Statement.{statement}
+use Rattle.w83782d.proofs.Monitor.write.Tie as tie
+
+slice-aggregate-write-in : tie.Need-slice-aggregate-write-in
+slice-aggregate-write-in c = search needs
+
+write-in-requires : tie.Need-write-in-requires
+write-in-requires c κs = search needs
+
+returns : tie.Need-returns
+returns c =
+    let m = c .before .before .before .before .before .before .args .self in
+    let fits : (k : ℕ) → Fits w8 (getD (m .registers) k 0) = λ k. search needs in (
+      search (needs, write-face),
+      write-claims (stateOf m) _ _ (record { count = search needs; bytes = λ k. fits k .fits }) (search needs),
+    )
+
+pub write-spec : {M : Type 1} → statement M
+write-spec = tie.close (tie.spec slice-aggregate-write-in write-in-requires returns)

@@ -1,0 +1,26 @@
+-- What `signed` ensures at the half range of nine bits.
+-- Assumes nothing.
+use mathlib.Core.Path.{ap, _∙_}
+use mir.Syntax.{w16}
+use mir.ValLaws.{toZ-ofZ}
+use borrow.Author.Needs.{needs}
+use Rattle.analog.specs.Temperature.{signedOf, half9}
+use Rattle.analog.proofs.Complement.{twos-complement-holds}
+use Rattle.analog.proofs.half_degrees.Statement.{statement}
+use Rattle.analog.proofs.half_degrees.Tie as tie
+
+nine-bits-requires : tie.Need-nine-bits-requires
+nine-bits-requires c κs = search needs
+
+signed-requires : tie.Need-signed-requires
+signed-requires c κs = search needs
+
+returns : tie.Need-returns
+returns c = (
+  toZ-ofZ w16 (c .signed .result) (record { sfits = c .signed .ok }) ∙ c .signed .ensures
+      ∙ ap (signedOf half9) (c .before .nine-bits .ensures .0),
+  twos-complement-holds,
+)
+
+pub half-degrees-spec : {M : Type 1} → statement M
+half-degrees-spec = tie.close (tie.spec nine-bits-requires signed-requires returns)

@@ -1,0 +1,207 @@
+// Readings of the analog side: millivolts, temperatures, PWM duty.
+ghost use mathlib.Core.Path.{_≡_};
+ghost use mathlib.Core.Bool.{true};
+ghost use Prim.Native.Nat.{_*_, _^_, _≤_, _<_};
+ghost use lib.IntN.{pos, _-ℤ_};
+ghost use Rattle.analog.specs.Readings.{nearest, nearestZ, isResistor, railOf, millivoltsOf, Nearest, Answers};
+ghost use Rattle.analog.specs.Temperature.{half8, half9, signedOf, codeOf, holds, levelOf, nineBits, halfCodeOf, TwosComplement};
+ghost use Rattle.analog.specs.Pwm.{pwmParts};
+
+// The largest resistor that is taken, in kilo-ohm.
+const MOST_KILO_OHM: u32 = 1000;
+
+// Millivolts of one step of a code at the pin, and of the reference that the negative rails hang from.
+const STEP: u32 = 16;
+
+const REFERENCE: u32 = 3600;
+
+// The +5 and +12 inputs stand behind dividers: a code is this many millivolts, over this.
+const PLUS_5: u32 = 672;
+
+const PLUS_5_OVER: u32 = 25;
+
+const PLUS_12: u32 = 304;
+
+const PLUS_12_OVER: u32 = 5;
+
+// Half the range of a byte, and of nine bits.
+const HALF_8: u16 = 128;
+
+const HALF_9: u16 = 256;
+
+// Bit 7 of a byte.
+const BIT_7: u8 = 128;
+
+// The PWM byte that is always on, and all the parts of its cycle.
+const FULL_DUTY: u8 = 255;
+
+const ALL_PARTS: u16 = 256;
+
+// What reading a voltage answers.
+pub enum Reading {
+    Millivolts(i32),
+    // Answer 7: no such channel, or a resistor out of range.
+    Refused,
+}
+
+// The two bytes of a temperature in half degrees.
+pub enum HalfCode {
+    Code { high: u8, low: u8 },
+    // Answer 3: outside -256 to 255 half degrees.
+    OutOfRange,
+}
+
+// n / d, nearest, halves up. The bounds leave room for doubling.
+fn rounded(n: u32, d: u32) -> u32
+    requires { ⌜ (n < 2 ^ 30) × (0 < d) × (d < 2 ^ 30) ⌝ }
+    ensures { λ r. ⌜ r ≡ nearest n d ⌝ }
+{
+    (2 * n + d) / (2 * d)
+}
+
+// (a - b) / d, nearest, halves away from zero.
+fn quotient(a: u32, b: u32, d: u32) -> i32
+    requires { ⌜ (a < 2 ^ 28) × (b < 2 ^ 28) × (0 < d) × (d < 2 ^ 28) ⌝ }
+    ensures { λ r. ⌜ r ≡ nearestZ (pos a -ℤ pos b) d ⌝ }
+{
+    if a < b {
+        return 0 - rounded(b - a, d) as i32;
+    }
+    rounded(a - b, d) as i32
+}
+
+// Whether a resistor is a whole 1 to 1,000 kilo-ohm.
+fn is_resistor(resistor: u32) -> bool
+    ensures { λ r. ⌜ r ≡ isResistor resistor ⌝ }
+{
+    if resistor < 1 {
+        return false;
+    }
+    resistor <= MOST_KILO_OHM
+}
+
+// The reading of -12 or -5, by the resistors of its divider.
+fn rail(code: u8, r5: u32, r6: u32) -> Reading
+    ensures { λ r. ⌜ r ≡ railOf code r5 r6 ⌝ }
+{
+    if !is_resistor(r5) {
+        return Reading::Refused;
+    }
+    if !is_resistor(r6) {
+        return Reading::Refused;
+    }
+    Reading::Millivolts(quotient(STEP * (code as u32) * (r5 + r6), REFERENCE * r5, r6))
+}
+
+// The millivolts of a code on a channel: VCOREA, VINR0, +3.3, +5, +12, -12, -5 from 0. The resistors count for the last two only.
+pub fn millivolts(channel: u8, code: u8, r5: u32, r6: u32) -> Reading
+    ensures { λ r. ⌜ (r ≡ millivoltsOf channel code r5 r6) × Nearest × Answers ⌝ }
+{
+    let c = code as u32;
+    match channel {
+        0..=2 => Reading::Millivolts(quotient(STEP * c, 0, 1)),
+        3 => Reading::Millivolts(quotient(PLUS_5 * c, 0, PLUS_5_OVER)),
+        4 => Reading::Millivolts(quotient(PLUS_12 * c, 0, PLUS_12_OVER)),
+        5..=6 => rail(code, r5, r6),
+        _ => Reading::Refused,
+    }
+}
+
+// A two's complement code of the half range, as a signed number.
+fn signed(half: u16, code: u16) -> i16
+    requires { ⌜ (half ≤ 256) × (code < 2 * half) ⌝ }
+    ensures { λ r. ⌜ r ≡ signedOf half code ⌝ }
+{
+    if code < half {
+        return code as i16;
+    }
+    0 - (2 * half - code) as i16
+}
+
+// The code of a signed number that the half range holds.
+fn code_of(half: u16, z: i16) -> u16
+    requires { ⌜ (half ≤ 256) × (holds half z ≡ true) ⌝ }
+    ensures { λ r. ⌜ (r ≡ codeOf half z) × (r < 2 * half) ⌝ }
+{
+    if z < 0 {
+        return (z + (2 * half) as i16) as u16;
+    }
+    z as u16
+}
+
+// The level of a code: 0 for the lowest number.
+fn level(half: u16, code: u16) -> u16
+    requires { ⌜ (0 < half) × (half ≤ 256) × (code < 2 * half) ⌝ }
+    ensures { λ r. ⌜ (r ≡ levelOf half code) × (r < 2 * half) ⌝ }
+{
+    (code + half) % (2 * half)
+}
+
+// Nine bits: a byte, and bit 7 of the byte below it.
+fn nine_bits(high: u8, low: u8) -> u16
+    ensures { λ r. ⌜ (r ≡ nineBits high low) × (r < 512) ⌝ }
+{
+    2 * (high as u16) + (low / BIT_7) as u16
+}
+
+// The whole degrees of a byte.
+pub fn whole_degrees(code: u8) -> i8
+    ensures { λ r. ⌜ (r ≡ signedOf half8 code) × TwosComplement ⌝ }
+{
+    signed(HALF_8, code as u16) as i8
+}
+
+// The byte of whole degrees.
+pub fn whole_code(degrees: i8) -> u8
+    ensures { λ r. ⌜ r ≡ codeOf half8 degrees ⌝ }
+{
+    code_of(HALF_8, degrees as i16) as u8
+}
+
+// The half degrees of two bytes.
+pub fn half_degrees(high: u8, low: u8) -> i16
+    ensures { λ r. ⌜ (r ≡ signedOf half9 (nineBits high low)) × TwosComplement ⌝ }
+{
+    signed(HALF_9, nine_bits(high, low))
+}
+
+// The two bytes of half degrees; refused outside -256 to 255.
+pub fn half_code(halves: i16) -> HalfCode
+    ensures { λ r. ⌜ r ≡ halfCodeOf halves ⌝ }
+{
+    if halves < -256 {
+        return HalfCode::OutOfRange;
+    }
+    if 255 < halves {
+        return HalfCode::OutOfRange;
+    }
+    let code = code_of(HALF_9, halves);
+    HalfCode::Code {
+        high: (code / 2) as u8,
+        low: (code % 2) as u8 * BIT_7,
+    }
+}
+
+// The level of a byte, 0 at -128 degrees: levels compare as the degrees do.
+pub fn whole_level(code: u8) -> u8
+    ensures { λ r. ⌜ r ≡ levelOf half8 code ⌝ }
+{
+    level(HALF_8, code as u16) as u8
+}
+
+// The level of two bytes, 0 at -256 half degrees.
+pub fn half_level(high: u8, low: u8) -> u16
+    ensures { λ r. ⌜ r ≡ levelOf half9 (nineBits high low) ⌝ }
+{
+    level(HALF_9, nine_bits(high, low))
+}
+
+// How many of 256 parts a PWM byte is on.
+pub fn pwm_parts(x: u8) -> u16
+    ensures { λ r. ⌜ r ≡ pwmParts x ⌝ }
+{
+    if x == FULL_DUTY {
+        return ALL_PARTS;
+    }
+    x as u16
+}

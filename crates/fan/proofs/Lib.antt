@@ -1,0 +1,5 @@
+pub mod Divisors
+pub mod Counts
+pub mod Best
+pub mod Planning
+pub mod Rounding

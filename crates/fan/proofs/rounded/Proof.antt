@@ -1,0 +1,26 @@
+-- The code is the definition, and the bounds leave room for twice n and d.
+-- Assumes nothing.
+use mathlib.Core.Path.{refl}
+use Rattle.fan.specs.Speed.{nearest}
+use borrow.Author.Needs.{needs}
+use Rattle.fan.proofs.rounded.Statement.{statement}
+use Rattle.fan.proofs.rounded.Tie as tie
+
+mul-result : tie.Need-mul-result
+mul-result c = search needs
+
+add-result : tie.Need-add-result
+add-result c = search needs
+
+mul-result-2 : tie.Need-mul-result-2
+mul-result-2 c = search needs
+
+div-result : tie.Need-div-result
+div-result c = search needs
+
+returns : tie.Need-returns
+unfolding nearest
+returns c = refl
+
+pub rounded-spec : {M : Type 1} → statement M
+rounded-spec = tie.close (tie.spec mul-result add-result mul-result-2 div-result returns)

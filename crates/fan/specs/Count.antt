@@ -1,0 +1,48 @@
+-- Fan counts, as counted and after division. Document 01, "What a sample does".
+use Prim.Native.Nat.{ℕ, _*_, _/_, _%_, _^_, min}
+use mathlib.Core.Bool.{Bool}
+use mathlib.Core.List.{List, [], _∷_}
+use lib.Dec.{eqb, ltb}
+use lib.ListN.{getD}
+use Rattle.bits.specs.Bits.{choose}
+use Rattle.fan.specs.declared.Divisor.{Divisor}
+use Rattle.fan.specs.declared.Divisor.the-variants.{By1, By2, By4, By8, By16, By32, By64, By128}
+
+-- what a fan at one turn a minute counts: the 1,350,000 of every rule on fans
+abbrev pub perMinute : ℕ
+perMinute = 1350000
+
+-- "The divisor is 2 to the power k, k being three bits": k of each of the eight
+abbrev pub exponentOf : Divisor → ℕ
+exponentOf By1 = 0
+exponentOf By2 = 1
+exponentOf By4 = 2
+exponentOf By8 = 3
+exponentOf By16 = 4
+exponentOf By32 = 5
+exponentOf By64 = 6
+exponentOf By128 = 7
+
+-- "The divisor is 2 to the power k"
+abbrev pub valueOf : Divisor → ℕ
+valueOf d = 2 ^ exponentOf d
+
+-- the eight in the order of k
+abbrev pub divisors : List Divisor
+divisors = By1 ∷ By2 ∷ By4 ∷ By8 ∷ By16 ∷ By32 ∷ By64 ∷ By128 ∷ []
+
+-- "k being three bits": the low three of any number
+unfoldable pub fromBits : ℕ → Divisor
+fromBits n = getD divisors (n % 8) By1
+
+-- "the stored count is u divided by the divisor, rounded down, at most 255"
+abbrev pub storedOf : ℕ → ℕ → ℕ
+storedOf u d = min 255 (u / d)
+
+-- "A fan at a/b rpm (b at least 1) gives u = 1,350,000 b / a rounded down, at most 4,294,967,295; a = 0 gives that maximum."
+abbrev pub countOf : ℕ → ℕ → ℕ
+countOf a b = choose (eqb a 0) 4294967295 (min 4294967295 (perMinute * b / a))
+
+-- "count above its limit"
+abbrev pub overLimit : ℕ → ℕ → Bool
+overLimit count limit = ltb limit count

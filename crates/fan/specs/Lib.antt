@@ -1,0 +1,4 @@
+pub mod Count
+pub mod Plan
+pub mod Search
+pub mod Speed

@@ -1,4 +1,3 @@
 pub mod Signs
-pub mod Rounding
 pub mod Voltages
 pub mod Complement

@@ -11,8 +11,9 @@ use borrow.Author.Tests.{leb-true, le-leb, lt-leb, lt-ltb}
 use Rattle.bits.specs.Bits.{choose}
 use Rattle.analog.specs.declared.Reading.{Reading}
 use Rattle.analog.specs.declared.Reading.the-variants.{Millivolts, Refused}
-use Rattle.analog.specs.Readings.{nearest, nearestZ, reading, readingAnswer, isResistor, railOf, millivoltsOf, answerFor, Answers}
-use Rattle.analog.proofs.Rounding.{nearest-le}
+use Rattle.analog.specs.Readings.{nearestZ, reading, readingAnswer, isResistor, railOf, millivoltsOf, answerFor, Answers}
+use Rattle.rounding.specs.Rounding.{nearest}
+use Rattle.rounding.proofs.Quotients.{nearest-le}
 use Rattle.analog.proofs.Signs.{minus-is, plus-is}
 
 -- the quotient by its magnitude

@@ -7,6 +7,7 @@ use lib.Dec.{leb, ltb}
 use lib.IntN.{ℤ, pos, negsuc, negℤ, _-ℤ_}
 use lib.ListN.{getD}
 use Rattle.bits.specs.Bits.{choose}
+use Rattle.rounding.specs.Rounding.{nearest}
 use Rattle.analog.specs.declared.Reading.{Reading}
 use Rattle.analog.specs.declared.Reading.the-variants.{Millivolts, Refused}
 
@@ -19,10 +20,6 @@ readingAnswer Refused = 7
 abbrev pub readingValue : Reading → ℤ
 readingValue (Millivolts z) = z
 readingValue Refused = pos 0
-
--- n / d, nearest, halves up
-unfoldable pub nearest : ℕ → ℕ → ℕ
-nearest n d = (2 * n + d) / (2 * d)
 
 -- "nearest, halves away from zero": z / d
 abbrev pub nearestZ : ℤ → ℕ → ℤ
@@ -64,8 +61,3 @@ answerFor channel r5 r6 = choose (ltb 6 channel || ltb 4 channel && not (isResis
 -- a reading is refused exactly when the answer table says so
 pub record Answers : Type 0 where
   pub exactly : (channel c r5 r6 : ℕ) → readingAnswer (millivoltsOf channel c r5 r6) ≡ answerFor channel r5 r6
-
--- what nearest, halves up, means: twice n lies below 2r + 1 times d, a half above r, and from 2r - 1 times d up, a half that goes up
-pub record Nearest : Type 0 where
-  pub below : (n d : ℕ) → 0 < d → 2 * n + d < 2 * (nearest n d + 1) * d
-  pub at-least : (n d : ℕ) → 0 < d → 2 * nearest n d * d ≤ 2 * n + d

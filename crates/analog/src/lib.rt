@@ -3,9 +3,10 @@ ghost use mathlib.Core.Path.{_≡_};
 ghost use mathlib.Core.Bool.{true};
 ghost use Prim.Native.Nat.{_*_, _^_, _≤_, _<_};
 ghost use lib.IntN.{pos, _-ℤ_};
-ghost use Rattle.analog.specs.Readings.{nearest, nearestZ, isResistor, railOf, millivoltsOf, Nearest, Answers};
+ghost use Rattle.analog.specs.Readings.{nearestZ, isResistor, railOf, millivoltsOf, Answers};
 ghost use Rattle.analog.specs.Temperature.{half8, half9, signedOf, codeOf, holds, levelOf, nineBits, halfCodeOf, TwosComplement};
 ghost use Rattle.analog.specs.Pwm.{pwmParts};
+use rounding::rounded;
 
 // The largest resistor that is taken, in kilo-ohm.
 const MOST_KILO_OHM: u32 = 1000;
@@ -51,14 +52,6 @@ pub enum HalfCode {
     OutOfRange,
 }
 
-// n / d, nearest, halves up. The bounds leave room for doubling.
-fn rounded(n: u32, d: u32) -> u32
-    requires { ⌜ (n < 2 ^ 30) × (0 < d) × (d < 2 ^ 30) ⌝ }
-    ensures { λ r. ⌜ r ≡ nearest n d ⌝ }
-{
-    (2 * n + d) / (2 * d)
-}
-
 // (a - b) / d, nearest, halves away from zero.
 fn quotient(a: u32, b: u32, d: u32) -> i32
     requires { ⌜ (a < 2 ^ 28) × (b < 2 ^ 28) × (0 < d) × (d < 2 ^ 28) ⌝ }
@@ -95,7 +88,7 @@ fn rail(code: u8, r5: u32, r6: u32) -> Reading
 
 // The millivolts of a code on a channel: VCOREA, VINR0, +3.3, +5, +12, -12, -5 from 0. The resistors count for the last two only.
 pub fn millivolts(channel: u8, code: u8, r5: u32, r6: u32) -> Reading
-    ensures { λ r. ⌜ (r ≡ millivoltsOf channel code r5 r6) × Nearest × Answers ⌝ }
+    ensures { λ r. ⌜ (r ≡ millivoltsOf channel code r5 r6) × Answers ⌝ }
 {
     let c = code as u32;
     match channel {

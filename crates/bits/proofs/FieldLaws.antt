@@ -15,8 +15,8 @@ use lib.Dec.{T, eqb, eqb→eq, leb, ltb, lit<}
 use lib.ListN.{getD, set, length, length-set, List·getD-eq-default}
 use lib.Seq.{getD-set-same, getD-set-other, set-out}
 use borrow.Author.Tests.{eq-eqb, ltb-true, not-true}
-use Rattle.bits.specs.Bits.{bit, isOn, mergeOf, Change, change, changes, touches, gatherOf, digitsOf, replaceOf, numberOf, isIn, distinct, inside}
-use Rattle.bits.specs.Claims.{Masks, ChangesKeep, ReplaceKeeps, GatherGivesBack}
+use Rattle.bits.specs.Bits.{bit, isOn, mergeOf, Change, change, changes, touches, gatherOf, digitsOf, replaceOf, numberOf, isIn, distinct, apart, inside}
+use Rattle.bits.specs.Claims.{Masks, ChangesKeep, ReplaceKeeps, GatherGivesBack, OtherStays}
 use Rattle.bits.specs.declared.Bit.{Bit}
 use Rattle.bits.specs.declared.Place.{Place}
 use Rattle.bits.proofs.Every.{every, every-at, every-at2, same-below, less-below, same-below2}
@@ -118,6 +118,15 @@ gather-gives-back rs (p ∷ ps) v d i =
     let rest : gatherOf (replaceOf next ps (v / 2)) ps ≡ v / 2 % 2 ^ length ps =
     gather-gives-back next ps (v / 2) (and-right (not (isIn ps (p .cell) j)) (distinct ps) d) (rw (length-set rs (p .cell)) (and-right (ltb (p .cell) (length rs)) (inside (length rs) ps) i)) in
     ap₂ (λ (x y : ℕ). x + 2 * y) first rest ∙ digit-sum v (length ps)
+
+pub other-stays : OtherStays
+unfolding gatherOf apart
+other-stays rs ps [] v e = refl
+other-stays rs ps (q ∷ qs) v e =
+    let j = numberOf (q .bit) in
+    ap₂ (λ (x y : ℕ). x + 2 * y)
+    (replace-keeps rs ps v (q .cell) j (number-lt (q .bit)) (not-true (isIn ps (q .cell) j) (and-left (not (isIn ps (q .cell) j)) (apart ps qs) e)))
+    (other-stays rs ps qs v (and-right (not (isIn ps (q .cell) j)) (apart ps qs) e))
 
 -- ---- what the functions compute, in the words of the definitions
 pub store-in : (rs : List ℕ) (cell mask byte r : ℕ) → r ≡ mergeOf (getD rs cell 0) mask byte → set rs cell r ≡ changes rs (change cell mask byte ∷ [])

@@ -86,6 +86,11 @@ unfoldable pub distinct : List Place → Bool
 distinct [] = true
 distinct (p ∷ ps) = not (isIn ps (p .cell) (numberOf (p .bit))) && distinct ps
 
+-- no place of the second field is one of the first
+unfoldable pub apart : List Place → List Place → Bool
+apart ps [] = true
+apart ps (q ∷ qs) = not (isIn ps (q .cell) (numberOf (q .bit))) && apart ps qs
+
 -- each place of a field is in one of the first n cells
 unfoldable pub inside : ℕ → List Place → Bool
 inside n [] = true

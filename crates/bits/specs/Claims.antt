@@ -5,7 +5,7 @@ use mathlib.Core.List.{List, [], _∷_}
 use Prim.Native.Nat.{ℕ, _%_, _^_, _<_}
 use lib.ListN.{getD, length}
 use Rattle.bits.specs.declared.Place.{Place}
-use Rattle.bits.specs.Bits.{bit, isOn, choose, mergeOf, Change, changes, touches, gatherOf, replaceOf, isIn, distinct, inside}
+use Rattle.bits.specs.Bits.{bit, isOn, choose, mergeOf, Change, changes, touches, gatherOf, replaceOf, isIn, distinct, apart, inside}
 
 -- a merge takes the mask's bits from the byte and keeps every other bit
 abbrev pub MergeTakes : Type 0
@@ -30,3 +30,7 @@ ReplaceKeeps = (rs : List ℕ) (ps : List Place) (v k j : ℕ) → j < 8 → isI
 abbrev pub GatherGivesBack : Type 0
 GatherGivesBack = (rs : List ℕ) (ps : List Place) (v : ℕ) → distinct ps ≡ true → inside (length rs) ps ≡ true
     → gatherOf (replaceOf rs ps v) ps ≡ v % 2 ^ length ps
+
+-- replacing one field leaves another that has no place in common with it
+abbrev pub OtherStays : Type 0
+OtherStays = (rs : List ℕ) (ps qs : List Place) (v : ℕ) → apart ps qs ≡ true → gatherOf (replaceOf rs ps v) qs ≡ gatherOf rs qs

@@ -2,4 +2,5 @@ pub mod Divisors
 pub mod Counts
 pub mod Best
 pub mod Planning
-pub mod Rounding
+pub mod Speeds
+pub mod DivisorFields

@@ -1,4 +1,5 @@
 pub mod Count
+pub mod Divisors
 pub mod Plan
 pub mod Search
 pub mod Speed

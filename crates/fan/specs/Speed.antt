@@ -1,7 +1,8 @@
 -- The speed reading. Document 01, "Readings".
-use Prim.Native.Nat.{ℕ, _+_, _*_, _/_, _≤_, _<_}
+use Prim.Native.Nat.{ℕ, _*_}
 use lib.Dec.{eqb}
 use Rattle.bits.specs.Bits.{choose}
+use Rattle.rounding.specs.Rounding.{nearest}
 use Rattle.fan.specs.declared.Speed.{Speed}
 use Rattle.fan.specs.declared.Speed.the-variants.{Rpm, TooFast, TooSlow, Refused}
 use Rattle.fan.specs.Count.{perMinute}
@@ -20,15 +21,6 @@ speedValue TooFast = 0
 speedValue TooSlow = 0
 speedValue Refused = 0
 
--- "nearest, halves up": n / d
-unfoldable pub nearest : ℕ → ℕ → ℕ
-nearest n d = (2 * n + d) / (2 * d)
-
 -- "for count 1 to 254 it is 1,350,000 / (count x divisor), nearest, halves up; count 0 answers "too fast" and 255 "too slow", never a number"
 unfoldable pub speedOf : ℕ → ℕ → Speed
 speedOf count d = choose (eqb count 0) TooFast (choose (eqb count 255) TooSlow (Rpm (nearest perMinute (count * d))))
-
--- what "nearest, halves up" means: twice n lies below 2r + 1 times d, a half above r, and from 2r - 1 times d up, a half that goes up
-pub record Nearest : Type 0 where
-  pub below : (n d : ℕ) → 0 < d → 2 * n + d < 2 * (nearest n d + 1) * d
-  pub at-least : (n d : ℕ) → 0 < d → 2 * nearest n d * d ≤ 2 * n + d

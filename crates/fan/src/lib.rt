@@ -2,9 +2,15 @@
 ghost use mathlib.Core.Path.{_≡_};
 ghost use Prim.Native.Nat.{_<_, _%_, _^_};
 ghost use Rattle.fan.specs.Count.{exponentOf, valueOf, fromBits, storedOf, overLimit};
+ghost use Rattle.bits.specs.Bits.{placesOf};
+ghost use Rattle.fan.specs.Divisors.{divisorAt, withDivisor, Fields};
 ghost use Rattle.fan.specs.Plan.{IsPlanned, Plans};
 ghost use Rattle.fan.specs.Search.{choiceAt, productOf, better, bestTo, planOf};
-ghost use Rattle.fan.specs.Speed.{nearest, speedOf, Nearest};
+ghost use Rattle.fan.specs.Speed.{speedOf};
+use bits::Field;
+use bits::gather;
+use bits::replace;
+use rounding::rounded;
 
 // What a fan at one turn a minute counts.
 const PER_MINUTE: u32 = 1350000;
@@ -95,6 +101,22 @@ impl Divisor {
     {
         1u8 << self.exponent()
     }
+
+    // The divisor whose three bits lie at the places of a field.
+    pub fn gathered(s: &[u8], field: Field) -> Self
+        ensures { λ r. ⌜ r ≡ divisorAt (now (s .entry)) (placesOf field) ⌝ }
+    {
+        Divisor::from_bits(gather(s, field))
+    }
+
+    // Its three bits put at the places of a field; every other bit of every cell stays.
+    pub fn put(self, s: &mut [u8], field: Field)
+        ensures equation { λ r. ⌜ now (s .exit) ≡ withDivisor (now (s .entry)) (placesOf field) self ⌝ }
+        ensures laws { λ r. ⌜ Fields ⌝ }
+    {
+        let bits = self.exponent();
+        replace(s, field, bits);
+    }
 }
 
 // The stored count: divided, rounded down, at most full.
@@ -175,18 +197,10 @@ pub fn plan(w: u32) -> Planned
     }
 }
 
-// n / d, nearest, halves up. The bounds leave room for doubling.
-fn rounded(n: u32, d: u32) -> u32
-    requires { ⌜ (n < 2 ^ 30) × (0 < d) × (d < 2 ^ 30) ⌝ }
-    ensures { λ r. ⌜ r ≡ nearest n d ⌝ }
-{
-    (2 * n + d) / (2 * d)
-}
-
 impl Divided {
     // The speed that a stored count and the divisor now set say; never refused.
     pub fn speed(self, divisor: Divisor) -> Speed
-        ensures { λ r. ⌜ (r ≡ speedOf (self .0) (valueOf divisor)) × Nearest ⌝ }
+        ensures { λ r. ⌜ r ≡ speedOf (self .0) (valueOf divisor) ⌝ }
     {
         let count = self.0;
         if count == 0 {

@@ -5,7 +5,6 @@ use mir.Syntax.{w32}
 use mir.ValLaws.{toZ-ofZ}
 use borrow.Author.Needs.{needs}
 use Rattle.analog.specs.declared.Reading.the-variants.{Millivolts}
-use Rattle.analog.proofs.Rounding.{nearest-holds}
 use Rattle.analog.proofs.Voltages.{plain, plus-5, plus-12, negative, no-channel, answers-hold}
 use Rattle.analog.proofs.millivolts.Statement.{statement}
 use Rattle.analog.proofs.millivolts.Tie as tie
@@ -35,7 +34,6 @@ returns : tie.Need-returns
 returns c = (
   ap Millivolts (toZ-ofZ w32 (c .quotient .result) (record { sfits = c .quotient .ok }) ∙ c .quotient .ensures)
       ∙ plus-5 _ _ _ _ (c .before .match .keys1),
-  nearest-holds,
   answers-hold,
 )
 
@@ -43,7 +41,6 @@ returns-2 : tie.Need-returns-2
 returns-2 c = (
   ap Millivolts (toZ-ofZ w32 (c .quotient2 .result) (record { sfits = c .quotient2 .ok }) ∙ c .quotient2 .ensures)
       ∙ plus-12 _ _ _ _ (c .before .match .keys2),
-  nearest-holds,
   answers-hold,
 )
 
@@ -51,7 +48,6 @@ returns-3 : tie.Need-returns-3
 returns-3 c = (
   ap Millivolts (toZ-ofZ w32 (c .quotient3 .result) (record { sfits = c .quotient3 .ok }) ∙ c .quotient3 .ensures)
       ∙ plain _ _ _ _ (c .before .if1 .taken),
-  nearest-holds,
   answers-hold,
 )
 
@@ -60,12 +56,11 @@ returns-4 c =
     let r = c .before .before in (
       c .rail .ensures
           ∙ negative _ _ _ _ (r .if1 .left) (r .before .match .rest .0 .1) (r .before .match .rest .1) (c .before .if2 .taken),
-      nearest-holds,
       answers-hold,
     )
 
 returns-5 : tie.Need-returns-5
-returns-5 c = (no-channel _ _ _ _ (c .if2 .left), nearest-holds, answers-hold)
+returns-5 c = (no-channel _ _ _ _ (c .if2 .left), answers-hold)
 
 pub millivolts-spec : {M : Type 1} → statement M
 millivolts-spec =

@@ -18,27 +18,27 @@ rounded-requires : tie.Need-rounded-requires
 rounded-requires c κs = search needs
 
 cast-result : tie.Need-cast-result
-cast-result c = record { sfits = is-small _ _ (c .rounded .ensures) (search needs) (search needs) }
+cast-result c = record { sfits = is-small _ _ (c .rounded .ensures .0) (search needs) (search needs) }
 
 sub-result : tie.Need-sub-result
-sub-result c = neg-fits w32 (c .rounded .result) (is-small _ _ (c .rounded .ensures) (search needs) (search needs))
+sub-result c = neg-fits w32 (c .rounded .result) (is-small _ _ (c .rounded .ensures .0) (search needs) (search needs))
 
 returns : tie.Need-returns
 returns c =
-    neg-back w32 (c .rounded .result) (is-small _ _ (c .rounded .ensures) (search needs) (search needs))
-    ∙ ap (λ (n : ℕ). negℤ (pos n)) (c .rounded .ensures)
+    neg-back w32 (c .rounded .result) (is-small _ _ (c .rounded .ensures .0) (search needs) (search needs))
+    ∙ ap (λ (n : ℕ). negℤ (pos n)) (c .rounded .ensures .0)
     ∙ below _ _ _ (c .before .if1 .taken)
 
 rounded-requires-2 : tie.Need-rounded-requires-2
 rounded-requires-2 c κs = search needs
 
 cast-result-2 : tie.Need-cast-result-2
-cast-result-2 c = record { sfits = is-small _ _ (c .rounded2 .ensures) (search needs) (search needs) }
+cast-result-2 c = record { sfits = is-small _ _ (c .rounded2 .ensures .0) (search needs) (search needs) }
 
 returns-2 : tie.Need-returns-2
 returns-2 c =
-    toZ-pos w32 (c .rounded2 .result) (is-small _ _ (c .rounded2 .ensures) (search needs) (search needs))
-    ∙ ap pos (c .rounded2 .ensures)
+    toZ-pos w32 (c .rounded2 .result) (is-small _ _ (c .rounded2 .ensures .0) (search needs) (search needs))
+    ∙ ap pos (c .rounded2 .ensures .0)
     ∙ above _ _ _ (c .before .if1 .left)
 
 pub quotient-spec : {M : Type 1} → statement M

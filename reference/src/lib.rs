@@ -1,0 +1,49 @@
+//! Second program for the hardware monitor W83782D.
+//!
+//! It carries out document 01 sentence by sentence, in the order of that
+//! paper's headings, and is meant to be read with the paper beside it. Where
+//! document 01 is silent, the data sheet and the readings that the project has
+//! fixed ("open points") decide. Plainness comes before cleverness: the planner
+//! searches, and arithmetic is done in wide integers.
+//!
+//! Every state is allowed as a start, also one whose cells hold bits that no
+//! call could have put there. A refused call leaves the state unchanged.
+
+mod map;
+mod monitor;
+mod plan;
+mod readings;
+mod record;
+mod sample;
+
+pub use map::{cell, find, Register, Row, ANY, CELLS, REGISTERS, ROWS};
+pub use monitor::{Mark, Monitor};
+pub use plan::{plan, u_of_speed};
+pub use readings::{millivolts, pwm_parts, Speed};
+pub use record::{decode, record_at, write_record, Event, RECORD_LENGTH};
+pub use sample::Sample;
+
+/// "Answer numbers" of document 01.
+pub mod answer {
+    /// 0: "accepted".
+    pub const ACCEPTED: u8 = 0;
+    /// 1: "index below 20h or above 7Fh, reserved index, or absent bank".
+    pub const NO_REGISTER: u8 = 1;
+    /// 2: "write to a read-only register".
+    pub const READ_ONLY: u8 = 2;
+    /// 3: "sample with sensor 2 or 3 outside -256 to 255 half degrees".
+    pub const BAD_TEMPERATURE: u8 = 3;
+    /// 4: "sample while 40h bit 0 is 0 or bit 3 is 1".
+    pub const NOT_MONITORING: u8 = 4;
+    /// 5: "record not of 32 bytes, unknown kind, a byte not zero that should
+    /// be, or record n asked for and not whole in the log".
+    pub const BAD_RECORD: u8 = 5;
+    /// 6: "planned speed 0 or above 1,350,000".
+    pub const BAD_SPEED: u8 = 6;
+    /// 7: "fan not 1 to 3, voltage channel not 0 to 6, or, for channels 5 and 6
+    /// only, a resistor not a whole 1 to 1,000 kilo-ohm". A temperature sensor
+    /// other than 1 to 3 is refused with the same number.
+    pub const NO_CHANNEL: u8 = 7;
+    /// 8: "output buffer not of 32 bytes".
+    pub const BAD_BUFFER: u8 = 8;
+}

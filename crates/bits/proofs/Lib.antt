@@ -3,3 +3,4 @@ pub mod BitLaws
 pub mod FieldLaws
 pub mod Match
 pub mod Tables
+pub mod Flags

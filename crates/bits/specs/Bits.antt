@@ -33,6 +33,14 @@ numberOf B5 = 5
 numberOf B6 = 6
 numberOf B7 = 7
 
+-- flags as a number, the first in bit 0
+abbrev pub flagOf : Bool → ℕ
+flagOf b = choose b 1 0
+
+unfoldable pub word : List Bool → ℕ
+word [] = 0
+word (b ∷ bs) = flagOf b + 2 * word bs
+
 -- ---- some bits of some cells replaced: what carries bus writes, plans and settings
 
 -- the mask's bits from the byte, every other bit from the old byte

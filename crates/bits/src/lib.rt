@@ -4,7 +4,7 @@ ghost use mathlib.Core.Path.{_≡_};
 ghost use mathlib.Core.List.{[], _∷_};
 ghost use Prim.Native.Nat.{_*_, _%_, _^_};
 ghost use lib.ListN.{getD};
-ghost use Rattle.bits.specs.Bits.{bit, numberOf, isOn, mergeOf, change, changes, gatherOf, replaceOf, placesOf};
+ghost use Rattle.bits.specs.Bits.{bit, numberOf, isOn, mergeOf, change, changes, gatherOf, replaceOf, placesOf, flagOf, word};
 
 // The number of a bit of a byte: no other can be written.
 pub enum Bit {
@@ -122,4 +122,25 @@ pub fn replace(s: &mut [u8], f: Field, value: u8)
     put_bit(s, low, value);
     put_bit(s, middle, value >> 1);
     put_bit(s, high, value >> 2);
+}
+
+// A flag as a bit.
+pub fn flag(on: bool) -> u8
+    ensures { λ r. ⌜ r ≡ flagOf on ⌝ }
+{
+    if on { 1 } else { 0 }
+}
+
+// Eight flags as a byte, the first in bit 0.
+pub fn pack(a: bool, b: bool, c: bool, d: bool, e: bool, f: bool, g: bool, h: bool) -> u8
+    ensures { λ r. ⌜ r ≡ word (a ∷ b ∷ c ∷ d ∷ e ∷ f ∷ g ∷ h ∷ []) ⌝ }
+{
+    flag(a)
+        | flag(b) << 1
+        | flag(c) << 2
+        | flag(d) << 3
+        | flag(e) << 4
+        | flag(f) << 5
+        | flag(g) << 6
+        | flag(h) << 7
 }

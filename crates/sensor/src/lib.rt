@@ -1,11 +1,24 @@
 // The marks and outputs of temperature sensors.
 ghost use mathlib.Core.Path.{_≡_};
-ghost use Rattle.sensor.specs.Sensor.{armed, releasedOf};
+ghost use Rattle.sensor.specs.Sensor.{armed, releasedOf, statusOf, outputOf};
 
 // What a sensor waits for: armed, to rise above its over limit; hot, to fall below its hysteresis.
 pub enum Mark {
     Armed,
     Hot,
+}
+
+// How a sensor's status or OVT output goes by its mark. Interrupt: at each crossing that the mark waits for, one step a
+// sample; for the status this is the two-times mode.
+pub enum Mode {
+    Comparator,
+    Interrupt,
+}
+
+// What a sample does to a sensor's status: the mark after it, and whether the status bit is latched.
+pub struct Status {
+    pub mark: Mark,
+    pub latched: bool,
 }
 
 // The OVT output of one sensor, with a mark of its own.
@@ -47,5 +60,100 @@ impl Remote {
             asserted: false,
         };
         Remote { status, output }
+    }
+}
+
+// The status step of one sensor at a sample, above its over limit or not, below its hysteresis or not.
+pub fn status_step(mode: Mode, mark: Mark, above: bool, below: bool) -> Status
+    ensures { λ r. ⌜ r ≡ statusOf mode mark above below ⌝ }
+{
+    match mode {
+        Mode::Comparator => {
+            if above {
+                return Status {
+                    mark: Mark::Hot,
+                    latched: true,
+                };
+            }
+            Status {
+                mark: Mark::Armed,
+                latched: false,
+            }
+        }
+        Mode::Interrupt => match mark {
+            Mark::Armed => {
+                if above {
+                    return Status {
+                        mark: Mark::Hot,
+                        latched: true,
+                    };
+                }
+                Status {
+                    mark: Mark::Armed,
+                    latched: false,
+                }
+            }
+            Mark::Hot => {
+                if below {
+                    return Status {
+                        mark: Mark::Armed,
+                        latched: true,
+                    };
+                }
+                Status {
+                    mark: Mark::Hot,
+                    latched: false,
+                }
+            }
+        },
+    }
+}
+
+// The OVT step of one sensor at a sample.
+pub fn output_step(mode: Mode, output: Output, above: bool, below: bool) -> Output
+    ensures { λ r. ⌜ r ≡ outputOf mode output above below ⌝ }
+{
+    match mode {
+        Mode::Comparator => {
+            if above {
+                return Output {
+                    mark: Mark::Hot,
+                    asserted: true,
+                };
+            }
+            if below {
+                return Output {
+                    mark: Mark::Armed,
+                    asserted: false,
+                };
+            }
+            Output {
+                mark: Mark::Armed,
+                asserted: output.asserted,
+            }
+        }
+        Mode::Interrupt => {
+            let mark = output.mark;
+            match mark {
+                Mark::Armed => {
+                    if above {
+                        return Output {
+                            mark: Mark::Hot,
+                            asserted: true,
+                        };
+                    }
+                    output
+                }
+                Mark::Hot => {
+                    if below {
+                        return Output {
+                            mark: Mark::Armed,
+                            asserted: true,
+                        };
+                    }
+                    output
+                }
+            }
+        }
     }
 }

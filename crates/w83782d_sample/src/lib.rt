@@ -1,0 +1,465 @@
+// What a sample does, in place on the registers' slice with the latches by value:
+// readings stored, real-time bits set, status latched, marks and OVT stepped.
+ghost use mathlib.Core.Path.{_≡_};
+ghost use mathlib.Core.Bool.{false};
+ghost use mathlib.Core.List.{[], _∷_};
+ghost use Prim.Native.Nat.{_<_, _≤_, _+_};
+ghost use lib.ListN.{length, getD};
+ghost use Rattle.bits.specs.Bits.{word, placesOf};
+ghost use Rattle.fan.specs.Count.{valueOf, storedOf};
+ghost use Rattle.w83782d_bus.specs.Map.{cells};
+ghost use Rattle.w83782d_bus.specs.Bus.{state, sized, wroteIn};
+ghost use Rattle.w83782d_sample.specs.Sample.{divisorPlaces, divisorOf, isOutside, halfLevelAt, aboveAt, belowAt, isAbove, isBelow, isSlow, modeIf, storedReadings, judgedRegisters, steppedLatches, isFar, isStopped, sampleAnswer, sampleOf};
+ghost use Rattle.w83782d_sample.specs.Parts.{fieldOf, sensor1Step, remoteStep, withCounts, withCodes, withHalves, Judges};
+use analog::HalfCode;
+use analog::half_code;
+use analog::half_level;
+use analog::whole_code;
+use analog::whole_level;
+use bits::Bit;
+use bits::Field;
+use bits::Place;
+use bits::is_on;
+use bits::pack;
+use event::Sample;
+use fan::Divided;
+use fan::Divisor;
+use fan::Undivided;
+use fan::divide;
+use fan::rings;
+use sensor::Mark;
+use sensor::Mode;
+use sensor::Remote;
+use sensor::Status;
+use sensor::output_step;
+use sensor::status_step;
+use w83782d_bus::CELLS;
+use w83782d_bus::Latches;
+use w83782d_bus::Wrote;
+
+// ---- Answer numbers
+
+const ACCEPTED: u8 = 0;
+
+const BAD_TEMPERATURE: u8 = 3;
+
+const STOPPED: u8 = 4;
+
+const WRONG_LENGTH: u8 = 8;
+
+// ---- Cells
+
+const SENSOR_1: usize = 0x27 - 0x20;
+
+const SENSOR_1_OVER: usize = 0x39 - 0x20;
+
+const SENSOR_1_HYSTERESIS: usize = 0x3a - 0x20;
+
+const CONFIGURATION: usize = 0x40 - 0x20;
+
+const INTERRUPT_STATUS_1: usize = 0x41 - 0x20;
+
+const INTERRUPT_STATUS_2: usize = 0x42 - 0x20;
+
+const FAN_DIVISOR_1_2: usize = 0x47 - 0x20;
+
+const FAN_DIVISOR_3: usize = 0x4b - 0x20;
+
+const IRQ_OVT: usize = 0x4c - 0x20;
+
+const FAN_DIVISOR_TOP: usize = 0x5d - 0x20;
+
+// Of the banks 1, 2 and 4, and within the banks of sensors 2 and 3.
+const BANK_1: usize = 64;
+
+const BANK_2: usize = 80;
+
+const CONFIGURED: usize = 2;
+
+const HYSTERESIS: usize = 3;
+
+const OVER: usize = 5;
+
+const REAL_TIME_STATUS_1: usize = 96 + 9;
+
+const REAL_TIME_STATUS_2: usize = 96 + 0xa;
+
+// The code of rail i stands at 20h + i, its high and low limits at 2Bh + 2i and 2Ch + 2i; the count and limit of fan f at
+// 27h + f and 3Ah + f.
+const VOLTAGES: usize = 0x20 - 0x20;
+
+const HIGH_LIMITS: usize = 0x2b - 0x20;
+
+const LOW_LIMITS: usize = 0x2c - 0x20;
+
+const COUNTS: usize = 0x27 - 0x20;
+
+const LIMITS: usize = 0x3a - 0x20;
+
+// ---- Conditions
+
+fn outside(s: &[u8], i: usize) -> bool
+    requires { ⌜ (length (now s) ≡ cells) × (i < 7) ⌝ }
+    ensures { λ r. ⌜ r ≡ isOutside (now (s .entry)) i ⌝ }
+{
+    let v = s[VOLTAGES + i];
+    if s[HIGH_LIMITS + 2 * i] < v {
+        return true;
+    }
+    v < s[LOW_LIMITS + 2 * i]
+}
+
+fn slow(s: &[u8], f: usize) -> bool
+    requires { ⌜ (length (now s) ≡ cells) × (f < 4) ⌝ }
+    ensures { λ r. ⌜ r ≡ isSlow (now (s .entry)) f ⌝ }
+{
+    rings(Divided(s[COUNTS + f]), s[LIMITS + f])
+}
+
+// Nine bits from a cell, as a level.
+fn half_level_at(s: &[u8], c: usize) -> u16
+    requires { ⌜ (length (now s) ≡ cells) × (c + 1 < cells) ⌝ }
+    ensures { λ r. ⌜ r ≡ halfLevelAt (now (s .entry)) c ⌝ }
+{
+    half_level(s[c], s[c + 1])
+}
+
+// A temperature against its limits.
+struct Stand {
+    above: bool,
+    below: bool,
+}
+
+fn sensor1_stand(s: &[u8]) -> Stand
+    requires { ⌜ length (now s) ≡ cells ⌝ }
+    ensures { λ r. ⌜ (r .above ≡ isAbove (now (s .entry)) 1) × (r .below ≡ isBelow (now (s .entry)) 1) ⌝ }
+{
+    let t = whole_level(s[SENSOR_1]);
+    let over = whole_level(s[SENSOR_1_OVER]);
+    let hysteresis = whole_level(s[SENSOR_1_HYSTERESIS]);
+    Stand {
+        above: over < t,
+        below: t < hysteresis,
+    }
+}
+
+// Sensor 2 or 3, by the first cell of its bank.
+fn remote_stand(s: &[u8], bank: usize) -> Stand
+    requires { ⌜ (length (now s) ≡ cells) × (bank ≤ 80) ⌝ }
+    ensures { λ r. ⌜ (r .above ≡ aboveAt (now (s .entry)) bank) × (r .below ≡ belowAt (now (s .entry)) bank) ⌝ }
+{
+    let t = half_level_at(s, bank);
+    let over = half_level_at(s, bank + OVER);
+    let hysteresis = half_level_at(s, bank + HYSTERESIS);
+    Stand {
+        above: over < t,
+        below: t < hysteresis,
+    }
+}
+
+// ---- Modes
+
+fn mode_if(comparator: bool) -> Mode
+    ensures { λ r. ⌜ r ≡ modeIf comparator ⌝ }
+{
+    if comparator {
+        return Mode::Comparator;
+    }
+    Mode::Interrupt
+}
+
+// ---- Steps
+
+// Sensor 1 after a sample, and whether it is above its over limit.
+struct First {
+    status: Status,
+    above: bool,
+}
+
+// Sensor 2 or 3 after a sample, whether its status is latched, and whether it is above its over limit.
+struct Step {
+    remote: Remote,
+    latched: bool,
+    above: bool,
+}
+
+fn sensor1_step(s: &[u8], mark: Mark) -> First
+    requires { ⌜ length (now s) ≡ cells ⌝ }
+    ensures { λ r. ⌜ r ≡ sensor1Step (now (s .entry)) mark ⌝ }
+{
+    let stand = sensor1_stand(s);
+    let mode = mode_if(s[SENSOR_1_HYSTERESIS] == 127);
+    let status = status_step(mode, mark, stand.above, stand.below);
+    First {
+        status,
+        above: stand.above,
+    }
+}
+
+fn remote_step(s: &[u8], bank: usize, remote: Remote) -> Step
+    requires { ⌜ (length (now s) ≡ cells) × (bank ≤ 80) ⌝ }
+    ensures { λ r. ⌜ r ≡ remoteStep (now (s .entry)) bank remote ⌝ }
+{
+    let stand = remote_stand(s, bank);
+    let mark = remote.status;
+    let old = remote.output;
+    let status_mode = mode_if(is_on(s[IRQ_OVT], Bit::B6));
+    let output_mode = mode_if(!is_on(s[bank + CONFIGURED], Bit::B1));
+    let stepped = status_step(status_mode, mark, stand.above, stand.below);
+    let output = output_step(output_mode, old, stand.above, stand.below);
+    let status = stepped.mark;
+    let after = Remote { status, output };
+    Step {
+        remote: after,
+        latched: stepped.latched,
+        above: stand.above,
+    }
+}
+
+// ---- The bits of 41h and 59h, and of 42h and 5Ah, with what the sensors give
+
+fn first_byte(s: &[u8], one: bool, two: bool) -> u8
+    requires { ⌜ length (now s) ≡ cells ⌝ }
+    ensures { λ r. ⌜ r ≡ word (isOutside (now (s .entry)) 0 ∷ isOutside (now (s .entry)) 1 ∷ isOutside (now (s .entry)) 2 ∷ isOutside (now (s .entry)) 3 ∷ one ∷ two ∷ isSlow (now (s .entry)) 1 ∷ isSlow (now (s .entry)) 2 ∷ []) ⌝ }
+{
+    pack(
+        outside(s, 0),
+        outside(s, 1),
+        outside(s, 2),
+        outside(s, 3),
+        one,
+        two,
+        slow(s, 1),
+        slow(s, 2),
+    )
+}
+
+// The chassis bit is the latch itself and not stored.
+fn second_byte(s: &[u8], three: bool) -> u8
+    requires { ⌜ length (now s) ≡ cells ⌝ }
+    ensures { λ r. ⌜ r ≡ word (isOutside (now (s .entry)) 4 ∷ isOutside (now (s .entry)) 5 ∷ isOutside (now (s .entry)) 6 ∷ isSlow (now (s .entry)) 3 ∷ false ∷ three ∷ false ∷ false ∷ []) ⌝ }
+{
+    pack(
+        outside(s, 4),
+        outside(s, 5),
+        outside(s, 6),
+        slow(s, 3),
+        false,
+        three,
+        false,
+        false,
+    )
+}
+
+// ---- Readings
+
+// Where the three bits of a fan's divisor lie.
+fn divisor_field(f: usize) -> Field
+    ensures { λ r. ⌜ placesOf r ≡ divisorPlaces f ⌝ }
+{
+    match f {
+        1 => field(FAN_DIVISOR_1_2, Bit::B4, Bit::B5, Bit::B5),
+        2 => field(FAN_DIVISOR_1_2, Bit::B6, Bit::B7, Bit::B6),
+        _ => field(FAN_DIVISOR_3, Bit::B6, Bit::B7, Bit::B7),
+    }
+}
+
+// Two bits in one cell, and the top one in 5Dh.
+fn field(cell: usize, low: Bit, middle: Bit, high: Bit) -> Field
+    ensures { λ r. ⌜ r ≡ fieldOf cell low middle high ⌝ }
+{
+    let a = Place { cell, bit: low };
+    let b = Place { cell, bit: middle };
+    let c = Place {
+        cell: FAN_DIVISOR_TOP,
+        bit: high,
+    };
+    Field {
+        low: a,
+        middle: b,
+        high: c,
+    }
+}
+
+// The count to store for a fan, by the divisor now set.
+fn count(s: &[u8], f: usize, u: Undivided) -> u8
+    ensures { λ r. ⌜ r ≡ storedOf (u .0) (valueOf (divisorOf (now (s .entry)) f)) ⌝ }
+{
+    let divisor = Divisor::gathered(s, divisor_field(f));
+    let divided = divide(u, divisor);
+    divided.0
+}
+
+fn store_counts(s: &mut [u8], x: Sample)
+    requires { ⌜ length (now s) ≡ cells ⌝ }
+    ensures { λ r. ⌜ now (s .exit) ≡ withCounts (now (s .entry)) x ⌝ }
+{
+    let a = x.counts[0];
+    let b = x.counts[1];
+    let c = x.counts[2];
+    let one = count(s, 1, a);
+    let two = count(s, 2, b);
+    let three = count(s, 3, c);
+    s[COUNTS + 1] = one;
+    s[COUNTS + 2] = two;
+    s[COUNTS + 3] = three;
+}
+
+fn store_codes(s: &mut [u8], x: Sample)
+    requires { ⌜ length (now s) ≡ cells ⌝ }
+    ensures { λ r. ⌜ now (s .exit) ≡ withCodes (now (s .entry)) x ⌝ }
+{
+    s[0] = x.codes[0];
+    s[1] = x.codes[1];
+    s[2] = x.codes[2];
+    s[3] = x.codes[3];
+    s[4] = x.codes[4];
+    s[5] = x.codes[5];
+    s[6] = x.codes[6];
+    s[SENSOR_1] = whole_code(x.sensor1);
+}
+
+// The two bytes of a sensor's half degrees; out of range they are 0, and such a sample is refused.
+fn store_halves(s: &mut [u8], bank: usize, halves: i16)
+    requires { ⌜ (length (now s) ≡ cells) × (bank ≤ 80) ⌝ }
+    ensures { λ r. ⌜ now (s .exit) ≡ withHalves (now (s .entry)) bank halves ⌝ }
+{
+    let code = half_code(halves);
+    match code {
+        HalfCode::Code { high, low } => {
+            s[bank] = high;
+            s[bank + 1] = low;
+        }
+        HalfCode::OutOfRange => {
+            s[bank] = 0;
+            s[bank + 1] = 0;
+        }
+    }
+}
+
+fn store(s: &mut [u8], x: Sample)
+    requires { ⌜ length (now s) ≡ cells ⌝ }
+    ensures { λ r. ⌜ now (s .exit) ≡ storedReadings (now (s .entry)) x ⌝ }
+{
+    store_counts(s, x);
+    store_codes(s, x);
+    store_halves(s, BANK_1, x.remote[0]);
+    store_halves(s, BANK_2, x.remote[1]);
+}
+
+// ---- Real-time bits, status, marks and OVT, from the readings stored
+
+struct Judged {
+    real1: u8,
+    real2: u8,
+    latched1: u8,
+    latched2: u8,
+    latches: Latches,
+}
+
+fn judge(s: &[u8], l: Latches) -> Judged
+    requires { ⌜ length (now s) ≡ cells ⌝ }
+    ensures { λ r. ⌜ Judges (now (s .entry)) l r ⌝ }
+{
+    let m = l.sensor1;
+    let p = l.remote[0];
+    let q = l.remote[1];
+    let one = sensor1_step(s, m);
+    let two = remote_step(s, BANK_1, p);
+    let three = remote_step(s, BANK_2, q);
+    let status = one.status;
+    let real1 = first_byte(s, one.above, two.above);
+    let real2 = second_byte(s, three.above);
+    let latched1 = first_byte(s, status.latched, two.latched);
+    let latched2 = second_byte(s, three.latched);
+    let sensor1 = status.mark;
+    let a = two.remote;
+    let b = three.remote;
+    let remote = [a, b];
+    let latches = Latches {
+        chassis: l.chassis,
+        sensor1,
+        remote,
+    };
+    Judged {
+        real1,
+        real2,
+        latched1,
+        latched2,
+        latches,
+    }
+}
+
+fn set_status(s: &mut [u8], l: Latches) -> Latches
+    requires { ⌜ length (now s) ≡ cells ⌝ }
+    ensures { λ r. ⌜ (r ≡ steppedLatches (now (s .entry)) l) × (now (s .exit) ≡ judgedRegisters (now (s .entry)) l) ⌝ }
+{
+    let judged = judge(s, l);
+    let status1 = s[INTERRUPT_STATUS_1] | judged.latched1;
+    let status2 = s[INTERRUPT_STATUS_2] | judged.latched2;
+    s[INTERRUPT_STATUS_1] = status1;
+    s[INTERRUPT_STATUS_2] = status2;
+    s[REAL_TIME_STATUS_1] = judged.real1;
+    s[REAL_TIME_STATUS_2] = judged.real2;
+    judged.latches
+}
+
+// ---- The sample
+
+// Outside -256 to 255 half degrees.
+fn far(halves: i16) -> bool
+    ensures { λ r. ⌜ r ≡ isFar halves ⌝ }
+{
+    let code = half_code(halves);
+    match code {
+        HalfCode::Code { high: _, low: _ } => false,
+        HalfCode::OutOfRange => true,
+    }
+}
+
+fn stopped(configuration: u8) -> bool
+    ensures { λ r. ⌜ r ≡ isStopped configuration ⌝ }
+{
+    if !is_on(configuration, Bit::B0) {
+        return true;
+    }
+    is_on(configuration, Bit::B3)
+}
+
+fn answer_to(s: &[u8], x: Sample) -> u8
+    requires { ⌜ length (now s) ≡ cells ⌝ }
+    ensures { λ r. ⌜ r ≡ sampleAnswer (now (s .entry)) x ⌝ }
+{
+    if far(x.remote[0]) {
+        return BAD_TEMPERATURE;
+    }
+    if far(x.remote[1]) {
+        return BAD_TEMPERATURE;
+    }
+    if stopped(s[CONFIGURATION]) {
+        return STOPPED;
+    }
+    ACCEPTED
+}
+
+// A sample in place. Refused as 3 or 4 it leaves registers and latches; a slice that is not of 112 cells is refused as 8.
+pub fn sample_in(s: &mut [u8], l: Latches, x: Sample) -> Wrote
+    ensures { λ r. ⌜ wroteIn (now (s .exit)) r ≡ sized (now (s .entry)) l (sampleOf (state (now (s .entry)) l) x) ⌝ }
+{
+    if s.len() != CELLS {
+        return Wrote {
+            latches: l,
+            answer: WRONG_LENGTH,
+        };
+    }
+    let answer = answer_to(s, x);
+    if answer != ACCEPTED {
+        return Wrote { latches: l, answer };
+    }
+    store(s, x);
+    let latches = set_status(s, l);
+    Wrote {
+        latches,
+        answer: ACCEPTED,
+    }
+}

@@ -137,6 +137,9 @@ pub store-out : (rs : List ℕ) (cell mask byte : ℕ) → length rs ≤ cell �
 unfolding changes
 store-out rs cell mask byte h = sym (set-out rs cell _ h)
 
+pub cell-out : (rs : List ℕ) (c : ℕ) → length rs ≤ c → 0 ≡ getD rs c 0
+cell-out rs c h = sym (List·getD-eq-default rs 0 h)
+
 pub read-out : (rs : List ℕ) (cell j : ℕ) → length rs ≤ cell → 0 ≡ bit (getD rs cell 0) j
 read-out rs cell j h = sym (ap (λ (x : ℕ). bit x j) (List·getD-eq-default rs 0 h) ∙ bit-none j)
 

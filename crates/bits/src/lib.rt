@@ -71,6 +71,16 @@ pub fn merge(old: u8, mask: u8, byte: u8) -> u8
     (old & !mask) | (byte & mask)
 }
 
+// The byte of a cell; 0 beyond the slice.
+pub fn cell(s: &[u8], at: usize) -> u8
+    ensures { λ r. ⌜ r ≡ getD (now (s .entry)) at 0 ⌝ }
+{
+    if at < s.len() {
+        return s[at];
+    }
+    0
+}
+
 // The bits of the mask, in one cell, from the byte.
 pub fn store(s: &mut [u8], cell: usize, mask: u8, byte: u8)
     ensures { λ r. ⌜ now (s .exit) ≡ changes (now (s .entry)) (change cell mask byte ∷ []) ⌝ }

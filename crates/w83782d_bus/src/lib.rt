@@ -413,7 +413,8 @@ pub fn write_in(s: &mut [u8], l: Latches, index: u8, value: u8) -> Wrote
 
 // ---- Bus read: a look and an effect
 
-fn with_chassis(byte: u8, chassis: bool) -> u8
+// A byte of 42h or 5Ah as a read shows it: bits 5, 3-0 of the cell, and the latch as bit 4.
+pub fn with_chassis(byte: u8, chassis: bool) -> u8
     ensures { λ r. ⌜ r ≡ withChassis byte chassis ⌝ }
 {
     let rest = byte & 0b0010_1111;

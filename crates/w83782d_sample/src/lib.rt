@@ -253,8 +253,8 @@ fn second_byte(s: &[u8], three: bool) -> u8
 
 // ---- Readings
 
-// Where the three bits of a fan's divisor lie.
-fn divisor_field(f: usize) -> Field
+// Where the three bits of a fan's divisor lie; of a number above 2, fan 3's.
+pub fn divisor_field(f: usize) -> Field
     ensures { λ r. ⌜ placesOf r ≡ divisorPlaces f ⌝ }
 {
     match f {

@@ -1,0 +1,109 @@
+-- The outputs and readings by their cases, over plain variables.
+-- Assumes nothing.
+use mathlib.Core.Path.{_≡_, refl, ap, ap₂, sym, _∙_}
+use mathlib.Core.Bool.{Bool, true, false, not, _&&_, and-false}
+use mathlib.Core.List.{List, [], _∷_}
+use Prim.Native.Nat.{ℕ, _+_, _-_, _<_, _≤_}
+use borrow.Author.Tests.{ne-eqb, lt-ltb, le-ltb, not-true, not-false}
+use lib.Bits.{bitAnd, bitOr}
+use lib.Count.{ones}
+use lib.Dec.{eqb, ltb}
+use lib.IntN.{ℤ}
+use lib.ListN.{getD}
+use Rattle.bits.specs.Bits.{isOn, placesOf}
+use Rattle.bits.specs.declared.Field.{Field}
+use Rattle.bits.proofs.Match.{NoKey}
+use Rattle.fan.specs.Count.{valueOf}
+use Rattle.fan.specs.Divisors.{divisorAt}
+use Rattle.fan.specs.Speed as fan
+use Rattle.fan.specs.declared.Divisor.{Divisor}
+use Rattle.fan.specs.declared.Speed.{Speed}
+use Rattle.fan.specs.declared.Speed.the-variants as speed
+use Rattle.analog.specs.Readings.{millivoltsOf, Answers}
+use Rattle.analog.specs.Temperature.{TwosComplement}
+use Rattle.analog.specs.Pwm.{pwmParts}
+use Rattle.analog.specs.declared.Reading.{Reading}
+use Rattle.w83782d_bus.specs.Map.{configuration, interruptStatus1, interruptStatus2}
+use Rattle.w83782d_bus.specs.Bus.{withChassis}
+use Rattle.w83782d_sample.specs.Sample.{fanCount, divisorPlaces}
+use Rattle.w83782d_readings.specs.declared.Temperature.the-variants as temperature
+use Rattle.w83782d_readings.specs.declared.Duty.the-variants as duty
+use Rattle.w83782d_readings.specs.Outputs.{smiMask1, smiMask2, smiOf, standingAlarms}
+use Rattle.w83782d_readings.specs.Readings.{voltageOf, speedOf, halfDegrees, temperatureOf, dutyOf}
+
+-- ---- SMI
+module _ (rs : List ℕ) (chassis : Bool) (c : ℕ) (e : c ≡ getD rs configuration 0) (a : Bool) (f : a ≡ isOn c 1) where
+  pub smi-disabled : not a ≡ true → false ≡ smiOf rs chassis
+  unfolding smiOf
+  smi-disabled t = simp (← e, ← f, not-true a t)
+
+  module _ (n : not a ≡ false) (b : Bool) (g : b ≡ isOn c 3) where
+    pub smi-cleared : b ≡ true → false ≡ smiOf rs chassis
+    unfolding smiOf
+    smi-cleared t = simp (← e, ← f, not-false a n, ← g, t)
+
+    pub smi-told : (x m y z k : ℕ) → b ≡ false → x ≡ getD rs interruptStatus1 0 → m ≡ getD rs smiMask1 0 → y ≡ getD rs interruptStatus2 0 → z ≡ withChassis y chassis → k ≡ getD rs smiMask2 0
+        → not (eqb (bitOr (bitAnd x (255 - m)) (bitAnd z (255 - k))) 0) ≡ smiOf rs chassis
+    unfolding smiOf
+    smi-told x m y z k t ex em ey ez ek = simp (← e, ← f, not-false a n, ← g, t, ← ex, ← em, ← ek, ← ey, ← ez)
+
+pub alarms-counted : (rs : List ℕ) (chassis : Bool) (x y z : ℕ) → x ≡ getD rs interruptStatus1 0 → y ≡ getD rs interruptStatus2 0 → z ≡ withChassis y chassis
+    → ones x + ones z ≡ standingAlarms rs chassis
+unfolding standingAlarms
+alarms-counted rs chassis x y z ex ey ez = rw (ez, ey, ex)
+
+-- ---- readings
+pub voltage-read : (rs : List ℕ) (channel code r5 r6 : ℕ) (m : Reading) → code ≡ getD rs channel 0 → (m ≡ millivoltsOf channel code r5 r6) × Answers → m ≡ voltageOf rs channel r5 r6
+voltage-read rs channel code r5 r6 m e f = f .0 ∙ ap (λ (c : ℕ). millivoltsOf channel c r5 r6) e
+
+module _ (rs : List ℕ) (f : ℕ) where
+  pub no-fan-0 : f < 1 → speed.Refused ≡ speedOf rs f
+  unfolding speedOf
+  no-fan-0 h = simp (lt-ltb f 1 h)
+
+  pub no-fan-4 : 1 ≤ f → 3 < f → speed.Refused ≡ speedOf rs f
+  unfolding speedOf
+  no-fan-4 h k = simp (le-ltb f 1 h, lt-ltb 3 f k)
+
+  pub fan-read : (p : Field) (d : Divisor) (n : ℕ) (r : Speed) → 1 ≤ f → f ≤ 3 → placesOf p ≡ divisorPlaces f → d ≡ divisorAt rs (placesOf p) → n ≡ getD rs (fanCount f) 0
+      → r ≡ fan.speedOf n (valueOf d) → r ≡ speedOf rs f
+  unfolding speedOf
+  fan-read p d n r h k ep ed en er =
+      simp (le-ltb f 1 h, le-ltb 3 f k) (er ∙ ap₂ (λ (x : ℕ) (y : Divisor). fan.speedOf x (valueOf y)) en (ed ∙ ap (divisorAt rs) ep))
+
+module _ (rs : List ℕ) (n : ℕ) where
+  pub sensor-1 : (h : ℕ) (z : ℤ) → n ≡ 1 → h ≡ getD rs 7 0 → (z ≡ halfDegrees h 0) × TwosComplement → temperature.HalfDegrees z ≡ temperatureOf rs n
+  unfolding temperatureOf
+  sensor-1 h z e f g = rw e (ap temperature.HalfDegrees (g .0 ∙ ap (λ (x : ℕ). halfDegrees x 0) f))
+
+  pub sensor-2 : (h l : ℕ) (z : ℤ) → n ≡ 2 → h ≡ getD rs 64 0 → l ≡ getD rs 65 0 → (z ≡ halfDegrees h l) × TwosComplement → temperature.HalfDegrees z ≡ temperatureOf rs n
+  unfolding temperatureOf
+  sensor-2 h l z e f k g = rw e (ap temperature.HalfDegrees (g .0 ∙ ap₂ halfDegrees f k))
+
+  pub sensor-3 : (h l : ℕ) (z : ℤ) → n ≡ 3 → h ≡ getD rs 80 0 → l ≡ getD rs 81 0 → (z ≡ halfDegrees h l) × TwosComplement → temperature.HalfDegrees z ≡ temperatureOf rs n
+  unfolding temperatureOf
+  sensor-3 h l z e f k g = rw e (ap temperature.HalfDegrees (g .0 ∙ ap₂ halfDegrees f k))
+
+  pub no-sensor : NoKey ((3 ∷ []) ∷ (2 ∷ []) ∷ (1 ∷ []) ∷ []) n → temperature.Refused ≡ temperatureOf rs n
+  unfolding temperatureOf
+  no-sensor m = simp (ne-eqb n 3 (m .1), ne-eqb n 2 (m .0 .1), ne-eqb n 1 (m .0 .0 .1))
+
+  pub duty-1 : (b p : ℕ) → n ≡ 1 → b ≡ getD rs 59 0 → p ≡ pwmParts b → duty.Parts p ≡ dutyOf rs n
+  unfolding dutyOf
+  duty-1 b p e f g = rw e (ap duty.Parts (g ∙ ap pwmParts f))
+
+  pub duty-2 : (b p : ℕ) → n ≡ 2 → b ≡ getD rs 58 0 → p ≡ pwmParts b → duty.Parts p ≡ dutyOf rs n
+  unfolding dutyOf
+  duty-2 b p e f g = rw e (ap duty.Parts (g ∙ ap pwmParts f))
+
+  pub duty-3 : (b p : ℕ) → n ≡ 3 → b ≡ getD rs 62 0 → p ≡ pwmParts b → duty.Parts p ≡ dutyOf rs n
+  unfolding dutyOf
+  duty-3 b p e f g = rw e (ap duty.Parts (g ∙ ap pwmParts f))
+
+  pub duty-4 : (b p : ℕ) → n ≡ 4 → b ≡ getD rs 63 0 → p ≡ pwmParts b → duty.Parts p ≡ dutyOf rs n
+  unfolding dutyOf
+  duty-4 b p e f g = rw e (ap duty.Parts (g ∙ ap pwmParts f))
+
+  pub no-duty : NoKey ((4 ∷ []) ∷ (3 ∷ []) ∷ (2 ∷ []) ∷ (1 ∷ []) ∷ []) n → duty.Refused ≡ dutyOf rs n
+  unfolding dutyOf
+  no-duty m = simp (ne-eqb n 4 (m .1), ne-eqb n 3 (m .0 .1), ne-eqb n 2 (m .0 .0 .1), ne-eqb n 1 (m .0 .0 .0 .1))

@@ -1,0 +1,53 @@
+-- Readings of the stored values (document 01, "Readings").
+use mathlib.Core.Bool.{_||_}
+use mathlib.Core.List.{List}
+use Prim.Native.Nat.{ℕ, _+_}
+use lib.Dec.{ltb, eqb}
+use lib.IntN.{ℤ}
+use lib.ListN.{getD}
+use Rattle.bits.specs.Bits.{choose}
+use Rattle.fan.specs.Count.{valueOf}
+use Rattle.fan.specs.Speed as fan
+use Rattle.fan.specs.declared.Speed.{Speed}
+use Rattle.fan.specs.declared.Speed.the-variants as speed
+use Rattle.analog.specs.Readings.{millivoltsOf}
+use Rattle.analog.specs.Temperature.{half9, signedOf, nineBits}
+use Rattle.analog.specs.Pwm.{pwmParts}
+use Rattle.analog.specs.declared.Reading.{Reading}
+use Rattle.w83782d_bus.specs.Map.{at}
+use Rattle.w83782d_sample.specs.Sample.{sensor1Value, bankCell, fanCount, divisorOf}
+use Rattle.w83782d_readings.specs.declared.Temperature.{Temperature}
+use Rattle.w83782d_readings.specs.declared.Temperature.the-variants as temperature
+use Rattle.w83782d_readings.specs.declared.Duty.{Duty}
+use Rattle.w83782d_readings.specs.declared.Duty.the-variants as duty
+
+-- the millivolts of the code stored for a channel
+abbrev pub voltageOf : List ℕ → ℕ → ℕ → ℕ → Reading
+voltageOf rs channel r5 r6 = millivoltsOf channel (getD rs channel 0) r5 r6
+
+-- "Speed takes the stored count and the divisor now set"; a fan other than 1 to 3 is answered 7
+unfoldable pub speedOf : List ℕ → ℕ → Speed
+speedOf rs f =
+    choose (ltb f 1 || ltb 3 f) speed.Refused
+    (fan.speedOf (getD rs (fanCount f) 0) (valueOf (divisorOf rs f)))
+
+-- half degrees of nine bits; sensor 1's whole degrees are eight bits, and no half below them
+abbrev pub halfDegrees : ℕ → ℕ → ℤ
+halfDegrees high low = signedOf half9 (nineBits high low)
+
+-- a sensor other than 1 to 3 is answered 7, as a fan is
+unfoldable pub temperatureOf : List ℕ → ℕ → Temperature
+temperatureOf rs n =
+    choose (eqb n 1) (temperature.HalfDegrees (halfDegrees (getD rs sensor1Value 0) 0))
+    (choose (eqb n 2) (temperature.HalfDegrees (halfDegrees (getD rs (bankCell 2) 0) (getD rs (bankCell 2 + 1) 0)))
+    (choose (eqb n 3) (temperature.HalfDegrees (halfDegrees (getD rs (bankCell 3) 0) (getD rs (bankCell 3 + 1) 0)))
+    temperature.Refused))
+
+-- "PWM byte x is on for x of 256 parts": outputs 1 to 4 are 5Bh, 5Ah, 5Eh, 5Fh
+unfoldable pub dutyOf : List ℕ → ℕ → Duty
+dutyOf rs n =
+    choose (eqb n 1) (duty.Parts (pwmParts (getD rs (at 0x5B) 0)))
+    (choose (eqb n 2) (duty.Parts (pwmParts (getD rs (at 0x5A) 0)))
+    (choose (eqb n 3) (duty.Parts (pwmParts (getD rs (at 0x5E) 0)))
+    (choose (eqb n 4) (duty.Parts (pwmParts (getD rs (at 0x5F) 0)))
+    duty.Refused)))

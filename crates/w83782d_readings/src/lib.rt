@@ -1,0 +1,135 @@
+// What the monitor says besides its registers: SMI, standing alarms, and the readings of the stored values.
+// Each looks at the registers' slice and changes nothing; a cell beyond a short slice counts as 0.
+ghost use mathlib.Core.Path.{_≡_};
+ghost use Rattle.w83782d_readings.specs.Outputs.{smiOf, standingAlarms};
+ghost use Rattle.w83782d_readings.specs.Readings.{voltageOf, speedOf, temperatureOf, dutyOf};
+use analog::Reading;
+use analog::half_degrees;
+use analog::millivolts;
+use analog::pwm_parts;
+use bits::Bit;
+use bits::cell;
+use bits::is_on;
+use fan::Divided;
+use fan::Divisor;
+use fan::Speed;
+use w83782d_bus::with_chassis;
+use w83782d_sample::divisor_field;
+
+const SENSOR_1: usize = 0x27 - 0x20;
+
+const COUNTS: usize = 0x27 - 0x20;
+
+const CONFIGURATION: usize = 0x40 - 0x20;
+
+const INTERRUPT_STATUS_1: usize = 0x41 - 0x20;
+
+const INTERRUPT_STATUS_2: usize = 0x42 - 0x20;
+
+const SMI_MASK_1: usize = 0x43 - 0x20;
+
+const SMI_MASK_2: usize = 0x44 - 0x20;
+
+const PWM_DUTY_2: usize = 0x5a - 0x20;
+
+const PWM_DUTY_1: usize = 0x5b - 0x20;
+
+const PWM_DUTY_3: usize = 0x5e - 0x20;
+
+const PWM_DUTY_4: usize = 0x5f - 0x20;
+
+const SENSOR_2: usize = 64;
+
+const SENSOR_3: usize = 80;
+
+// What reading a temperature answers.
+pub enum Temperature {
+    // Half degrees; sensor 1's whole degrees doubled.
+    HalfDegrees(i16),
+    // Answer 7: there is no such sensor.
+    Refused,
+}
+
+// What reading a PWM duty answers.
+pub enum Duty {
+    // Parts of 256.
+    Parts(u16),
+    // Answer 7: there is no such output.
+    Refused,
+}
+
+// ---- SMI and standing alarms, from the bytes that reads show
+
+// Whether SMI is asserted.
+pub fn smi(s: &[u8], chassis: bool) -> bool
+    ensures { λ r. ⌜ r ≡ smiOf (now (s .entry)) chassis ⌝ }
+{
+    let configuration = cell(s, CONFIGURATION);
+    if !is_on(configuration, Bit::B1) {
+        return false;
+    }
+    if is_on(configuration, Bit::B3) {
+        return false;
+    }
+    let first = cell(s, INTERRUPT_STATUS_1) & !cell(s, SMI_MASK_1);
+    let second = with_chassis(cell(s, INTERRUPT_STATUS_2), chassis) & !cell(s, SMI_MASK_2);
+    (first | second) != 0
+}
+
+// The number of standing alarms: the set bits of 41h and 42h.
+pub fn standing_alarms(s: &[u8], chassis: bool) -> u32
+    ensures { λ r. ⌜ r ≡ standingAlarms (now (s .entry)) chassis ⌝ }
+{
+    let first = cell(s, INTERRUPT_STATUS_1);
+    let second = with_chassis(cell(s, INTERRUPT_STATUS_2), chassis);
+    u8::count_ones(first) + u8::count_ones(second)
+}
+
+// ---- Readings
+
+// The millivolts of a voltage channel, 0 to 6, with the resistors of the negative rails.
+pub fn voltage(s: &[u8], channel: u8, r5: u32, r6: u32) -> Reading
+    ensures { λ r. ⌜ r ≡ voltageOf (now (s .entry)) channel r5 r6 ⌝ }
+{
+    millivolts(channel, cell(s, channel as usize), r5, r6)
+}
+
+// The speed of a fan, 1 to 3, by its stored count and the divisor now set.
+pub fn speed(s: &[u8], fan: u8) -> Speed
+    ensures { λ r. ⌜ r ≡ speedOf (now (s .entry)) fan ⌝ }
+{
+    if fan < 1 {
+        return Speed::Refused;
+    }
+    if 3 < fan {
+        return Speed::Refused;
+    }
+    let f = fan as usize;
+    let divisor = Divisor::gathered(s, divisor_field(f));
+    Divided(cell(s, COUNTS + f)).speed(divisor)
+}
+
+// The temperature of a sensor, 1 to 3, in half degrees.
+pub fn temperature_of(s: &[u8], sensor: u8) -> Temperature
+    ensures { λ r. ⌜ r ≡ temperatureOf (now (s .entry)) sensor ⌝ }
+{
+    match sensor {
+        1 => Temperature::HalfDegrees(half_degrees(cell(s, SENSOR_1), 0)),
+        2 => Temperature::HalfDegrees(half_degrees(cell(s, SENSOR_2), cell(s, SENSOR_2 + 1))),
+        3 => Temperature::HalfDegrees(half_degrees(cell(s, SENSOR_3), cell(s, SENSOR_3 + 1))),
+        _ => Temperature::Refused,
+    }
+}
+
+// How many of 256 parts PWM output 1 to 4 is on.
+pub fn duty_of(s: &[u8], output: u8) -> Duty
+    ensures { λ r. ⌜ r ≡ dutyOf (now (s .entry)) output ⌝ }
+{
+    match output {
+        1 => Duty::Parts(pwm_parts(cell(s, PWM_DUTY_1))),
+        2 => Duty::Parts(pwm_parts(cell(s, PWM_DUTY_2))),
+        3 => Duty::Parts(pwm_parts(cell(s, PWM_DUTY_3))),
+        4 => Duty::Parts(pwm_parts(cell(s, PWM_DUTY_4))),
+        _ => Duty::Refused,
+    }
+}

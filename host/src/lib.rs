@@ -1,0 +1,146 @@
+//! The hardware monitor W83782D for Rust firmware: a small safe face over the
+//! proved library.
+//!
+//! A [`Monitor`] answers bus accesses as the chip does. What the rules refuse is
+//! an `Err` with a [`Refusal`], and changes nothing. [`plan`], [`millivolts`] and
+//! [`pwm_parts`] need no monitor.
+//!
+//! The proved code is the archive `libw83782d_c.a`, which `rt staticlib
+//! w83782d_c` makes for x86-64. It needs no other library; this crate needs only
+//! `core`.
+
+#![no_std]
+
+mod raw;
+#[cfg(feature = "records")]
+mod records;
+mod refusal;
+
+#[cfg(feature = "records")]
+pub use records::{record_at, Record, Sample, RECORD_SIZE};
+pub use refusal::Refusal;
+
+/// Bytes of a monitor's image.
+pub const IMAGE_SIZE: usize = 128;
+
+/// A hardware monitor W83782D.
+///
+/// It owns its image, the bytes that are its whole state. Any bytes are some
+/// state, so an image may be saved and put back.
+///
+/// ```
+/// use w83782d::{Monitor, Refusal};
+///
+/// let mut monitor = Monitor::power_on();
+/// // 4Eh bit 7 selects which byte of the vendor ID 4Fh reads.
+/// monitor.write(0x4E, 0x80)?;
+/// assert_eq!(monitor.read(0x4F), Ok(0x5C));
+/// monitor.write(0x4E, 0x00)?;
+/// assert_eq!(monitor.read(0x4F), Ok(0xA3));
+/// // The chip ID is read-only.
+/// assert_eq!(monitor.write(0x58, 0xFF), Err(Refusal::ReadOnly));
+/// assert_eq!(monitor.read(0x58), Ok(0x30));
+/// # Ok::<(), Refusal>(())
+/// ```
+#[derive(Clone, Debug)]
+pub struct Monitor {
+    image: [u8; IMAGE_SIZE],
+}
+
+impl Monitor {
+    /// A monitor at power-on.
+    pub fn power_on() -> Monitor {
+        let mut image = [0; IMAGE_SIZE];
+        // SAFETY: pointer and length are those of `image`, which is lent for the call.
+        let answer = unsafe { raw::w83782d_power_on(image.as_mut_ptr(), IMAGE_SIZE) };
+        debug_assert_eq!(answer, 0, "refused only for an image of another length");
+        Monitor { image }
+    }
+
+    /// The monitor whose image was kept from [`Monitor::image`].
+    pub const fn from_image(image: [u8; IMAGE_SIZE]) -> Monitor {
+        Monitor { image }
+    }
+
+    /// The whole state, to keep.
+    pub const fn image(&self) -> &[u8; IMAGE_SIZE] {
+        &self.image
+    }
+
+    /// Bus write. [`Refusal::NoRegister`] or [`Refusal::ReadOnly`] leaves the
+    /// monitor as it was.
+    pub fn write(&mut self, index: u8, value: u8) -> Result<(), Refusal> {
+        // SAFETY: pointer and length are those of the image, which is lent for the call.
+        let answer =
+            unsafe { raw::w83782d_write(self.image.as_mut_ptr(), IMAGE_SIZE, index, value) };
+        refusal::accepted(answer)
+    }
+
+    /// Bus read, with its effects: reading 41h or 42h clears it, and reading 50h
+    /// of bank 1 or 2 releases OVT in interrupt mode. [`Refusal::NoRegister`]
+    /// leaves the monitor as it was.
+    pub fn read(&mut self, index: u8) -> Result<u8, Refusal> {
+        // SAFETY: pointer and length are those of the image, which is lent for the call.
+        let word = unsafe { raw::w83782d_read(self.image.as_mut_ptr(), IMAGE_SIZE, index) };
+        let [answer, byte] = word.to_be_bytes();
+        refusal::accepted(answer)?;
+        Ok(byte)
+    }
+
+    /// The chassis was opened: sets the chassis latch, in standby too.
+    pub fn chassis_opened(&mut self) {
+        // SAFETY: pointer and length are those of the image, which is lent for the call.
+        let answer = unsafe { raw::w83782d_chassis_opened(self.image.as_mut_ptr(), IMAGE_SIZE) };
+        debug_assert_eq!(answer, 0, "refused only for an image of another length");
+    }
+}
+
+/// How a fan alarm is set: the divisor and the count limit.
+#[derive(Clone, Copy, Debug, PartialEq, Eq)]
+pub struct Plan {
+    /// 1, 2, 4, .. 128.
+    pub divisor: u8,
+    /// 0 to 254.
+    pub limit: u8,
+}
+
+/// The plan of a fan alarm at a speed, or [`Refusal::BadSpeed`].
+///
+/// ```
+/// use w83782d::{plan, Plan, Refusal};
+///
+/// assert_eq!(plan(4_400), Ok(Plan { divisor: 2, limit: 152 }));
+/// assert_eq!(plan(0), Err(Refusal::BadSpeed));
+/// ```
+pub fn plan(rpm: u32) -> Result<Plan, Refusal> {
+    // SAFETY: takes and returns numbers only.
+    let word = unsafe { raw::w83782d_plan(rpm) };
+    let [_, answer, divisor, limit] = word.to_be_bytes();
+    refusal::accepted(answer)?;
+    Ok(Plan { divisor, limit })
+}
+
+/// The millivolts of a code on a voltage channel, 0 to 6: VCOREA, VINR0, +3.3,
+/// +5, +12, -12, -5. Resistors R5 and R6 are in kilo-ohm, 1 to 1,000, and count
+/// for channels 5 and 6 only. Anything else is [`Refusal::NoChannel`].
+///
+/// ```
+/// use w83782d::{millivolts, Refusal};
+///
+/// assert_eq!(millivolts(3, 186, 0, 0), Ok(5_000));
+/// assert_eq!(millivolts(5, 35, 232, 56), Ok(-12_034));
+/// assert_eq!(millivolts(5, 35, 232, 0), Err(Refusal::NoChannel));
+/// ```
+pub fn millivolts(channel: u8, code: u8, r5: u32, r6: u32) -> Result<i32, Refusal> {
+    // SAFETY: takes and returns numbers only.
+    let answer = unsafe { raw::w83782d_millivolts_answer(channel, r5, r6) };
+    refusal::accepted(answer)?;
+    // SAFETY: takes and returns numbers only.
+    Ok(unsafe { raw::w83782d_millivolts(channel, code, r5, r6) })
+}
+
+/// How many of 256 parts a PWM duty byte is on: the byte, and 256 for FFh.
+pub fn pwm_parts(duty: u8) -> u16 {
+    // SAFETY: takes and returns numbers only.
+    unsafe { raw::w83782d_pwm_parts(duty) }
+}

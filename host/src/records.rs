@@ -1,0 +1,125 @@
+//! Event records.
+
+use crate::raw;
+use crate::refusal::{self, Refusal};
+
+/// Bytes of an event record.
+pub const RECORD_SIZE: usize = 32;
+
+/// What one sample carries.
+#[derive(Clone, Copy, Debug, PartialEq, Eq)]
+pub struct Sample {
+    /// Codes of VCOREA, VINR0, +3.3, +5, +12, -12, -5.
+    pub codes: [u8; 7],
+    /// Sensor 1 in whole degrees.
+    pub sensor_1: i8,
+    /// Sensor 2 in half degrees, -256 to 255.
+    pub sensor_2: i16,
+    /// Sensor 3 in half degrees, -256 to 255.
+    pub sensor_3: i16,
+    /// Undivided counts of fans 1 to 3.
+    pub counts: [u32; 3],
+}
+
+/// The record of one event. Every value of this type holds an event.
+///
+/// ```
+/// use w83782d::{record_at, Record, Refusal};
+///
+/// let log = [*Record::chassis_opened().bytes(), *Record::write(0x47, 0x50).bytes()].concat();
+/// let bytes = record_at(&log, 1)?;
+/// assert_eq!(bytes[..4], [0x01, 0x47, 0x50, 0x00]);
+/// assert_eq!(Record::decode(bytes), Ok(Record::write(0x47, 0x50)));
+/// assert_eq!(record_at(&log, 2), Err(Refusal::BadRecord));
+/// # Ok::<(), Refusal>(())
+/// ```
+#[derive(Clone, Copy, Debug, PartialEq, Eq)]
+pub struct Record([u8; RECORD_SIZE]);
+
+impl Record {
+    /// The record of a bus write.
+    pub fn write(index: u8, value: u8) -> Record {
+        Record::whole(|out| {
+            // SAFETY: pointer and length are those of `out`, which is lent for the call.
+            unsafe { raw::w83782d_record_write(index, value, out.as_mut_ptr(), RECORD_SIZE) }
+        })
+    }
+
+    /// The record of a bus read.
+    pub fn read(index: u8) -> Record {
+        Record::whole(|out| {
+            // SAFETY: pointer and length are those of `out`, which is lent for the call.
+            unsafe { raw::w83782d_record_read(index, out.as_mut_ptr(), RECORD_SIZE) }
+        })
+    }
+
+    /// The record of an opened chassis.
+    pub fn chassis_opened() -> Record {
+        Record::whole(|out| {
+            // SAFETY: pointer and length are those of `out`, which is lent for the call.
+            unsafe { raw::w83782d_record_chassis(out.as_mut_ptr(), RECORD_SIZE) }
+        })
+    }
+
+    /// The record of a sample, or [`Refusal::BadTemperature`].
+    pub fn sample(sample: &Sample) -> Result<Record, Refusal> {
+        let [u1, u2, u3] = sample.counts;
+        Record::made(|out| {
+            // SAFETY: each pointer and the length after it are those of an array, which is lent
+            // for the call; the two arrays are different ones.
+            unsafe {
+                raw::w83782d_record_sample(
+                    sample.codes.as_ptr(),
+                    sample.codes.len(),
+                    sample.sensor_1,
+                    sample.sensor_2,
+                    sample.sensor_3,
+                    u1,
+                    u2,
+                    u3,
+                    out.as_mut_ptr(),
+                    RECORD_SIZE,
+                )
+            }
+        })
+    }
+
+    /// The record in these bytes, if they hold an event. [`Refusal::BadRecord`]
+    /// if they don't; [`Refusal::BadTemperature`] for a well-formed sample with a
+    /// bad temperature.
+    pub fn decode(bytes: &[u8]) -> Result<Record, Refusal> {
+        // SAFETY: pointer and length are those of `bytes`, which is lent for the call.
+        let answer = unsafe { raw::w83782d_decode(bytes.as_ptr(), bytes.len()) };
+        refusal::accepted(answer)?;
+        bytes.try_into().map(Record).map_err(|_| Refusal::BadRecord)
+    }
+
+    /// The record's bytes.
+    pub const fn bytes(&self) -> &[u8; RECORD_SIZE] {
+        &self.0
+    }
+
+    /// The record that a call leaves in the buffer that it is lent.
+    fn made(call: impl FnOnce(&mut [u8; RECORD_SIZE]) -> u8) -> Result<Record, Refusal> {
+        let mut out = [0; RECORD_SIZE];
+        refusal::accepted(call(&mut out))?;
+        Ok(Record(out))
+    }
+
+    /// As `made`, of a call that a whole buffer leaves nothing to refuse.
+    fn whole(call: impl FnOnce(&mut [u8; RECORD_SIZE]) -> u8) -> Record {
+        Record::made(call).expect("refused only for a buffer of another length")
+    }
+}
+
+/// Record k of a log, counted from 0: the log's own bytes. [`Refusal::BadRecord`]
+/// if it is not whole in the log.
+pub fn record_at(log: &[u8], k: u64) -> Result<&[u8; RECORD_SIZE], Refusal> {
+    // SAFETY: pointer and length are those of `log`, which is lent for the call.
+    let offset = unsafe { raw::w83782d_record_at(log.as_ptr(), log.len(), k) };
+    // All ones, for no such record, is the start of no part of a log either.
+    usize::try_from(offset)
+        .ok()
+        .and_then(|start| log.get(start..)?.first_chunk())
+        .ok_or(Refusal::BadRecord)
+}

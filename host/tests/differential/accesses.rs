@@ -1,0 +1,135 @@
+//! Single calls, exhaustive where the choices are few.
+
+use crate::boundary;
+use crate::calls::{agrees, library, Call};
+use crate::image::{in_bank, near_power_on, power_on, random, Image, CHASSIS, LENGTH, SPARE};
+use crate::report::explain;
+use crate::rng::Rng;
+
+fn hold(start: &Image, call: Call, origin: &str) {
+    assert!(
+        agrees(library, start, call),
+        "{}",
+        explain(library, start, &[call], origin)
+    );
+}
+
+/// Power-on, all ones, all zeros, zeros with odd flags, then random ones by seed.
+fn starts(random_ones: u64) -> Vec<(String, Image)> {
+    let mut odd_flags = [0; LENGTH];
+    odd_flags[CHASSIS..].fill(0xA5);
+    let mut starts = vec![
+        ("power-on".to_string(), power_on()),
+        ("all ones".to_string(), [0xFF; LENGTH]),
+        ("all zeros".to_string(), [0x00; LENGTH]),
+        ("odd flags".to_string(), odd_flags),
+    ];
+    for seed in 0..random_ones {
+        let mut rng = Rng::new(seed);
+        starts.push((format!("random image, seed {seed}"), random(&mut rng)));
+        starts.push((
+            format!("near power-on, seed {seed}"),
+            near_power_on(&mut rng),
+        ));
+    }
+    starts
+}
+
+#[test]
+fn every_write_agrees_in_every_bank() {
+    for (origin, start) in starts(6) {
+        for bank in 0..8 {
+            let start = in_bank(&start, bank);
+            for index in 0..=255 {
+                for value in 0..=255 {
+                    hold(&start, Call::Write { index, value }, &origin);
+                }
+            }
+        }
+    }
+}
+
+#[test]
+fn every_read_agrees_in_every_bank() {
+    for (origin, start) in starts(2_000) {
+        for bank in 0..8 {
+            let start = in_bank(&start, bank);
+            for index in 0..=255 {
+                hold(&start, Call::Read { index }, &origin);
+            }
+        }
+    }
+}
+
+#[test]
+fn power_on_and_chassis_opened_agree_from_any_image() {
+    for (origin, start) in starts(50_000) {
+        hold(&start, Call::PowerOn, &origin);
+        hold(&start, Call::ChassisOpened, &origin);
+    }
+}
+
+/// Answers 0, 1 and 2 in turn, with flag bytes that no call writes.
+#[test]
+fn accepted_calls_tidy_flags_and_refused_ones_keep_them() {
+    let mut start = power_on();
+    start[CHASSIS..].fill(0xA5);
+
+    let mut image = start;
+    assert_eq!(boundary::write(&mut image, 0x45, 0xFF), 1);
+    assert_eq!(image, start);
+    assert_eq!(boundary::write(&mut image, 0x58, 0xFF), 2);
+    assert_eq!(image, start);
+    assert_eq!(boundary::read(&mut image, 0x1F), (1, 0));
+    assert_eq!(image, start);
+
+    assert_eq!(boundary::write(&mut image, 0x4E, 0x80), 0);
+    assert_eq!(image[CHASSIS..SPARE], [1; SPARE - CHASSIS]);
+    assert_eq!(image[SPARE..], start[SPARE..]);
+    assert_eq!(image[..CHASSIS], start[..CHASSIS]);
+}
+
+/// Bytes on either side of a lent image, which no call may touch.
+const BESIDE: usize = 64;
+
+/// An image of another length is refused before index and register are judged.
+#[test]
+fn an_image_of_another_length_is_answered_8_and_kept() {
+    for length in [0, 1, 111, 112, 120, 127, 129, 256, 4096] {
+        let mut rng = Rng::new(length as u64);
+        let mut start = vec![0; BESIDE + length + BESIDE];
+        start.fill_with(|| rng.byte());
+        let mut lent = start.clone();
+
+        let image = &mut lent[BESIDE..][..length];
+        assert_eq!(boundary::power_on(image), 8, "length {length}");
+        assert_eq!(boundary::chassis_opened(image), 8, "length {length}");
+        for index in 0..=255 {
+            let image = &mut lent[BESIDE..][..length];
+            assert_eq!(boundary::read(image, index), (8, 0));
+            for value in [0x00, 0x80, 0xFF] {
+                assert_eq!(boundary::write(image, index, value), 8);
+            }
+            assert_eq!(lent, start, "length {length}, index {index:02X}h");
+        }
+    }
+}
+
+#[test]
+fn no_call_reaches_beyond_the_image() {
+    const GUARD: u8 = 0x5A;
+    let mut lent = [GUARD; BESIDE + LENGTH + BESIDE];
+    let mut rng = Rng::new(0);
+    for bank in 0..8 {
+        for index in 0..=255 {
+            let image = &mut lent[BESIDE..][..LENGTH];
+            image.copy_from_slice(&in_bank(&random(&mut rng), bank));
+            boundary::read(image, index);
+            boundary::write(image, index, rng.byte());
+            boundary::chassis_opened(image);
+            boundary::power_on(image);
+            assert_eq!(lent[..BESIDE], [GUARD; BESIDE]);
+            assert_eq!(lent[BESIDE + LENGTH..], [GUARD; BESIDE]);
+        }
+    }
+}

@@ -1,0 +1,103 @@
+//! The C functions, with slices for pointer and length: the wrapper can't lend
+//! an image of another length, and these tests must.
+
+#[path = "../../src/raw.rs"]
+mod raw;
+
+/// Answer and byte.
+pub type Answer = (u8, u8);
+
+pub fn power_on(image: &mut [u8]) -> u8 {
+    // SAFETY: pointer and length are those of the slice.
+    unsafe { raw::w83782d_power_on(image.as_mut_ptr(), image.len()) }
+}
+
+pub fn write(image: &mut [u8], index: u8, value: u8) -> u8 {
+    // SAFETY: pointer and length are those of the slice.
+    unsafe { raw::w83782d_write(image.as_mut_ptr(), image.len(), index, value) }
+}
+
+/// "answer * 256 + byte"
+pub fn read(image: &mut [u8], index: u8) -> Answer {
+    // SAFETY: pointer and length are those of the slice.
+    let word = unsafe { raw::w83782d_read(image.as_mut_ptr(), image.len(), index) };
+    ((word / 256) as u8, (word % 256) as u8)
+}
+
+pub fn chassis_opened(image: &mut [u8]) -> u8 {
+    // SAFETY: pointer and length are those of the slice.
+    unsafe { raw::w83782d_chassis_opened(image.as_mut_ptr(), image.len()) }
+}
+
+/// "answer * 65536 + divisor * 256 + limit"
+pub fn plan(rpm: u32) -> (u32, u32, u32) {
+    // SAFETY: numbers only.
+    let word = unsafe { raw::w83782d_plan(rpm) };
+    (word / 65536, word / 256 % 256, word % 256)
+}
+
+/// Answer and reading.
+pub fn millivolts(channel: u8, code: u8, r5: u32, r6: u32) -> (u8, i32) {
+    // SAFETY: numbers only.
+    unsafe {
+        (
+            raw::w83782d_millivolts_answer(channel, r5, r6),
+            raw::w83782d_millivolts(channel, code, r5, r6),
+        )
+    }
+}
+
+pub fn pwm_parts(x: u8) -> u16 {
+    // SAFETY: numbers only.
+    unsafe { raw::w83782d_pwm_parts(x) }
+}
+
+#[cfg(feature = "records")]
+pub mod records {
+    use super::raw;
+    use reference::Sample;
+
+    pub fn decode(record: &[u8]) -> u8 {
+        // SAFETY: pointer and length are those of the slice.
+        unsafe { raw::w83782d_decode(record.as_ptr(), record.len()) }
+    }
+
+    pub fn record_at(log: &[u8], k: u64) -> u64 {
+        // SAFETY: pointer and length are those of the slice.
+        unsafe { raw::w83782d_record_at(log.as_ptr(), log.len(), k) }
+    }
+
+    pub fn record_write(index: u8, value: u8, out: &mut [u8]) -> u8 {
+        // SAFETY: pointer and length are those of the slice.
+        unsafe { raw::w83782d_record_write(index, value, out.as_mut_ptr(), out.len()) }
+    }
+
+    pub fn record_read(index: u8, out: &mut [u8]) -> u8 {
+        // SAFETY: pointer and length are those of the slice.
+        unsafe { raw::w83782d_record_read(index, out.as_mut_ptr(), out.len()) }
+    }
+
+    pub fn record_chassis(out: &mut [u8]) -> u8 {
+        // SAFETY: pointer and length are those of the slice.
+        unsafe { raw::w83782d_record_chassis(out.as_mut_ptr(), out.len()) }
+    }
+
+    /// The sample's codes are lent apart, so that their length may be wrong.
+    pub fn record_sample(volts: &[u8], sample: &Sample, out: &mut [u8]) -> u8 {
+        // SAFETY: each pointer and the length after it are those of a slice.
+        unsafe {
+            raw::w83782d_record_sample(
+                volts.as_ptr(),
+                volts.len(),
+                sample.t1,
+                sample.t2,
+                sample.t3,
+                sample.u[0],
+                sample.u[1],
+                sample.u[2],
+                out.as_mut_ptr(),
+                out.len(),
+            )
+        }
+    }
+}

@@ -1,0 +1,18 @@
+//! The proved library against the second program.
+//!
+//! Every call goes through the C boundary (or through the wrapper over it), and
+//! the answer, the byte and all 128 bytes of the image after it are held to what
+//! `reference` gives. What is expected comes from `reference` or from the paper,
+//! never from the library.
+
+mod accesses;
+mod boundary;
+mod calls;
+mod image;
+mod planted;
+mod readings;
+#[cfg(feature = "records")]
+mod records;
+mod report;
+mod rng;
+mod sequences;

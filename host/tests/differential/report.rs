@@ -1,0 +1,105 @@
+//! A disagreement, made small and put into words.
+
+use crate::calls::{first_disagreement, Call, Expected, Subject};
+use crate::image::{Image, LENGTH};
+use std::fmt::Write;
+
+/// Holds a list of calls to `reference`; `origin` says how to make it again.
+pub fn hold(subject: Subject, start: &Image, calls: &[Call], origin: &str) {
+    if first_disagreement(subject, start, calls).is_some() {
+        let shortest = shrink(subject, start, calls);
+        panic!("{}", explain(subject, start, &shortest, origin));
+    }
+}
+
+/// The calls up to the first that doesn't agree, and then without those that the
+/// disagreement doesn't need: large parts are tried first, single calls last.
+pub fn shrink(subject: Subject, start: &Image, calls: &[Call]) -> Vec<Call> {
+    let mut shown = prefix(subject, start, calls).expect("the calls disagree");
+    let mut part = shown.len().div_ceil(2);
+    loop {
+        match without_a_part(subject, start, &shown, part) {
+            Some(fewer) => shown = fewer,
+            None if part == 1 => return shown,
+            None => part = part.div_ceil(2),
+        }
+        part = part.min(shown.len());
+    }
+}
+
+/// The shortest prefix that disagrees.
+fn prefix(subject: Subject, start: &Image, calls: &[Call]) -> Option<Vec<Call>> {
+    first_disagreement(subject, start, calls).map(|last| calls[..=last].to_vec())
+}
+
+/// A shorter list that disagrees, with one part of so many calls left out.
+fn without_a_part(
+    subject: Subject,
+    start: &Image,
+    calls: &[Call],
+    part: usize,
+) -> Option<Vec<Call>> {
+    (0..calls.len()).step_by(part).find_map(|from| {
+        let to = calls.len().min(from + part);
+        let fewer = [&calls[..from], &calls[to..]].concat();
+        prefix(subject, start, &fewer)
+    })
+}
+
+/// The start, the calls, and what the last of them should have given.
+pub fn explain(subject: Subject, start: &Image, calls: &[Call], origin: &str) -> String {
+    let mut text = format!("{origin}: disagreement\nstart:\n");
+    for (line, bytes) in start.chunks(16).enumerate() {
+        let _ = writeln!(text, "  {:3}: {bytes:02X?}", 16 * line);
+    }
+    let mut expected = Expected::from(start);
+    let mut found = *start;
+    for &call in calls {
+        let answers = (expected.call(call), subject(&mut found, call));
+        let _ = writeln!(text, "{}", in_words(call));
+        if answers.0 != answers.1 {
+            let _ = writeln!(
+                text,
+                "  (answer, byte): expected {:02X?}, found {:02X?}",
+                answers.0, answers.1
+            );
+        }
+        for at in (0..LENGTH).filter(|&at| expected.image[at] != found[at]) {
+            let _ = writeln!(
+                text,
+                "  {}: expected {:02X}h, found {:02X}h",
+                place(at),
+                expected.image[at],
+                found[at]
+            );
+        }
+    }
+    text
+}
+
+fn in_words(call: Call) -> String {
+    match call {
+        Call::PowerOn => "power-on".into(),
+        Call::Write { index, value } => format!("write {value:02X}h to {index:02X}h"),
+        Call::Read { index } => format!("read {index:02X}h"),
+        Call::ChassisOpened => "chassis opened".into(),
+    }
+}
+
+/// Where a byte of the image lies.
+fn place(at: usize) -> String {
+    match at {
+        0..=47 => format!("cell of {:02X}h", at + 0x20),
+        48..=63 => format!("cell of bank 0 {:02X}h", at + 0x20),
+        64..=79 => format!("cell of bank 1 {:02X}h", at - 64 + 0x50),
+        80..=95 => format!("cell of bank 2 {:02X}h", at - 80 + 0x50),
+        96..=111 => format!("cell of bank 4 {:02X}h", at - 96 + 0x50),
+        112 => "chassis latch".into(),
+        113 => "sensor 1 mark".into(),
+        114..=119 => {
+            let flag = ["status mark", "OVT mark", "OVT output"][(at - 114) % 3];
+            format!("sensor {} {flag}", 2 + (at - 114) / 3)
+        }
+        _ => format!("spare byte {at}"),
+    }
+}

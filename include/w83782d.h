@@ -1,0 +1,180 @@
+/*
+ * Hardware monitor W83782D: the C interface of the proved library.
+ *
+ * The host keeps a monitor as an image of W83782D_IMAGE_SIZE bytes that it
+ * never looks into. Any bytes are some state of a monitor, so an image may be
+ * saved and put back; w83782d_power_on makes a fresh one. Nothing is kept
+ * between calls but the images, so two threads may work on two images at once.
+ *
+ * Every call ends, whatever its arguments, and what can be refused answers one
+ * of the numbers below. A refused call leaves every byte that it was lent, and
+ * what it returns beside the answer is 0. Two things are the caller's part: a
+ * pointer leads to as many bytes as the length after it says, and the buffers of
+ * one call don't overlap.
+ *
+ * To link: libw83782d_c.a, which `rt staticlib w83782d_c` writes to
+ * target/staticlib/, and nothing else. It calls no function outside itself, not
+ * even of the C library, keeps no data of its own and allocates nothing:
+ *
+ *     gcc -Iinclude firmware.c target/staticlib/libw83782d_c.a
+ *
+ * It is position-independent code for x86-64 (System V calling convention)
+ * without unwind tables.
+ */
+#ifndef W83782D_H
+#define W83782D_H
+
+#include <stddef.h>
+#include <stdint.h>
+
+/* Bytes of a monitor's image, of an event record, and of a sample's codes. */
+#define W83782D_IMAGE_SIZE 128
+#define W83782D_RECORD_SIZE 32
+#define W83782D_VOLTAGES 7
+
+/* ---- Answer numbers ---- */
+
+/* Accepted. */
+#define W83782D_ACCEPTED 0
+/* Index below 20h or above 7Fh, reserved index, or absent bank. */
+#define W83782D_NO_REGISTER 1
+/* Write to a read-only register. */
+#define W83782D_READ_ONLY 2
+/* Sample with sensor 2 or 3 outside -256 to 255 half degrees. */
+#define W83782D_BAD_TEMPERATURE 3
+/* Sample while 40h bit 0 is 0 or bit 3 is 1. */
+#define W83782D_NOT_MONITORING 4
+/* Record not of 32 bytes, of unknown kind or with a byte not zero that should
+ * be; or record k is not whole in the log. */
+#define W83782D_BAD_RECORD 5
+/* Planned speed 0 or above 1,350,000 rpm. */
+#define W83782D_BAD_SPEED 6
+/* Fan not 1 to 3, voltage channel not 0 to 6, or, for channels 5 and 6 only, a
+ * resistor not 1 to 1,000 kilo-ohm. */
+#define W83782D_NO_CHANNEL 7
+/* Image, codes or output buffer of another length than the call needs. It comes
+ * before every other refusal. */
+#define W83782D_BAD_LENGTH 8
+
+/* ---- Parts of a returned word ---- */
+
+/* Of w83782d_read: answer * 256 + byte. */
+#define W83782D_READ_ANSWER(word) ((uint8_t)((word) >> 8))
+#define W83782D_READ_BYTE(word) ((uint8_t)((word) & 0xFF))
+
+/* Of w83782d_plan: answer * 65536 + divisor * 256 + limit. */
+#define W83782D_PLAN_ANSWER(word) ((uint8_t)((word) >> 16))
+#define W83782D_PLAN_DIVISOR(word) ((uint8_t)(((word) >> 8) & 0xFF))
+#define W83782D_PLAN_LIMIT(word) ((uint8_t)((word) & 0xFF))
+
+/* Of w83782d_record_at: no such record, answer W83782D_BAD_RECORD. */
+#define W83782D_NO_RECORD UINT64_MAX
+
+#ifdef __cplusplus
+extern "C" {
+#endif
+
+/* ---- Events ---- */
+
+/*
+ * Power-on: every byte of the image is given its power-on value, whatever it
+ * was. Answers 0, or 8 if n is not W83782D_IMAGE_SIZE; the image is then left
+ * as it was.
+ */
+uint8_t w83782d_power_on(uint8_t *image, size_t n);
+
+/*
+ * Bus write of a value to an index. Answers 0, 1 (no register), 2 (read-only)
+ * or 8 (n); a refusal leaves every byte of the image.
+ */
+uint8_t w83782d_write(uint8_t *image, size_t n, uint8_t index, uint8_t value);
+
+/*
+ * Bus read of an index, with its effects: 41h and 42h are cleared, and 50h of
+ * bank 1 or 2 releases OVT in interrupt mode. Returns answer * 256 + byte; the
+ * answer is 0, 1 (no register) or 8 (n). A refusal gives byte 0 and leaves every
+ * byte of the image.
+ */
+uint16_t w83782d_read(uint8_t *image, size_t n, uint8_t index);
+
+/*
+ * The chassis was opened: the latch is set, in standby too. Answers 0, or 8 (n);
+ * a refusal leaves every byte of the image.
+ */
+uint8_t w83782d_chassis_opened(uint8_t *image, size_t n);
+
+/* ---- Plans and readings that need no monitor ---- */
+
+/*
+ * The plan of a fan alarm at a speed: the divisor (1, 2, .. 128) and the count
+ * limit (0 to 254) to set. Returns answer * 65536 + divisor * 256 + limit; the
+ * answer is 0 or 6 (speed). A refusal gives divisor 0 and limit 0.
+ */
+uint32_t w83782d_plan(uint32_t rpm);
+
+/*
+ * The answer to reading a voltage channel (0 to 6: VCOREA, VINR0, +3.3, +5, +12,
+ * -12, -5) with resistors R5 and R6 in kilo-ohm, which count for channels 5 and
+ * 6 only: 0 or 7. Ask before w83782d_millivolts, since 0 is a reading too.
+ */
+uint8_t w83782d_millivolts_answer(uint8_t channel, uint32_t r5, uint32_t r6);
+
+/*
+ * The millivolts of a code on a voltage channel, nearest, halves away from zero;
+ * 0 where w83782d_millivolts_answer is 7.
+ */
+int32_t w83782d_millivolts(uint8_t channel, uint8_t code, uint32_t r5, uint32_t r6);
+
+/*
+ * How many of 256 parts a PWM duty byte is on: the byte, and 256 for FFh. Never
+ * refused.
+ */
+uint16_t w83782d_pwm_parts(uint8_t x);
+
+/* ---- Event records ---- */
+
+/*
+ * Whether a record holds an event: answers 0, 5 (m, kind or a byte that should be
+ * zero) or 3 (a well-formed sample with a bad temperature). Never 4: whether a
+ * monitor would take the event isn't asked.
+ */
+uint8_t w83782d_decode(const uint8_t *record, size_t m);
+
+/*
+ * Where record k of a log starts: 32 k, if the log has all of its 32 bytes, or
+ * W83782D_NO_RECORD, which stands for answer 5.
+ */
+uint64_t w83782d_record_at(const uint8_t *log, size_t m, uint64_t k);
+
+/*
+ * Writes the record of a bus write to out. Answers 0, or 8 if m is not
+ * W83782D_RECORD_SIZE; a refusal leaves every byte of out.
+ */
+uint8_t w83782d_record_write(uint8_t index, uint8_t value, uint8_t *out, size_t m);
+
+/*
+ * Writes the record of a bus read to out. Answers 0 or 8 (m); a refusal leaves
+ * every byte of out.
+ */
+uint8_t w83782d_record_read(uint8_t index, uint8_t *out, size_t m);
+
+/*
+ * Writes the record of an opened chassis to out. Answers 0 or 8 (m); a refusal
+ * leaves every byte of out.
+ */
+uint8_t w83782d_record_chassis(uint8_t *out, size_t m);
+
+/*
+ * Writes the record of a sample to out: codes of the seven voltages, sensor 1 in
+ * whole degrees, sensors 2 and 3 in half degrees, the undivided counts of fans 1
+ * to 3. Answers 0, 8 (v is not W83782D_VOLTAGES, or m) or 3 (t2 or t3 outside
+ * -256 to 255); a refusal leaves every byte of out.
+ */
+uint8_t w83782d_record_sample(const uint8_t *volts, size_t v, int8_t t1, int16_t t2, int16_t t3,
+                              uint32_t u1, uint32_t u2, uint32_t u3, uint8_t *out, size_t m);
+
+#ifdef __cplusplus
+}
+#endif
+
+#endif

@@ -12,11 +12,9 @@
 #![no_std]
 
 mod raw;
-#[cfg(feature = "records")]
 mod records;
 mod refusal;
 
-#[cfg(feature = "records")]
 pub use records::{record_at, Record, Sample, RECORD_SIZE};
 pub use refusal::Refusal;
 

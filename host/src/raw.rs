@@ -11,7 +11,6 @@ extern "C" {
     pub fn w83782d_pwm_parts(x: u8) -> u16;
 }
 
-#[cfg(feature = "records")]
 extern "C" {
     pub fn w83782d_decode(record: *const u8, m: usize) -> u8;
     pub fn w83782d_record_at(log: *const u8, m: usize, k: u64) -> u64;

@@ -52,7 +52,6 @@ pub fn pwm_parts(x: u8) -> u16 {
     unsafe { raw::w83782d_pwm_parts(x) }
 }
 
-#[cfg(feature = "records")]
 pub mod records {
     use super::raw;
     use reference::Sample;

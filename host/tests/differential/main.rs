@@ -11,7 +11,6 @@ mod calls;
 mod image;
 mod planted;
 mod readings;
-#[cfg(feature = "records")]
 mod records;
 mod report;
 mod rng;

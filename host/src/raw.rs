@@ -9,9 +9,6 @@ extern "C" {
     pub fn w83782d_millivolts_answer(channel: u8, r5: u32, r6: u32) -> u8;
     pub fn w83782d_millivolts(channel: u8, code: u8, r5: u32, r6: u32) -> i32;
     pub fn w83782d_pwm_parts(x: u8) -> u16;
-}
-
-extern "C" {
     pub fn w83782d_decode(record: *const u8, m: usize) -> u8;
     pub fn w83782d_record_at(log: *const u8, m: usize, k: u64) -> u64;
     pub fn w83782d_record_write(index: u8, value: u8, out: *mut u8, m: usize) -> u8;

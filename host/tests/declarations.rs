@@ -129,15 +129,10 @@ fn every_exported_function_is_declared_with_its_types() {
     }
 }
 
-/// Without `records`, the functions that it switches on may be missing.
 #[test]
 fn every_declared_function_is_exported() {
-    let mut needed = text("host/src/raw.rs");
-    if let (Some(switch), false) = (needed.find("#[cfg(feature"), cfg!(feature = "records")) {
-        needed.truncate(switch);
-    }
     let exported = exported();
-    for name in functions_after("pub fn ", &needed).keys() {
+    for name in functions_after("pub fn ", &text("host/src/raw.rs")).keys() {
         assert!(exported.contains_key(name), "{name}");
     }
 }

@@ -3,7 +3,8 @@
 use mathlib.Core.Path.{_≡_, ap, refl}
 use mathlib.Core.List.{List}
 use Prim.Native.Nat.{ℕ, _<_}
-use borrow.Author.Tests.{eq-eqb}
+use mathlib.Core.Bool.{false}
+use borrow.Author.Tests.{eq-eqb, ne-eqb}
 use lib.ListN.{length, getD}
 use Rattle.w83782d_bus.specs.Map.{cells}
 use Rattle.w83782d_bus.specs.Bus as Bus
@@ -11,10 +12,13 @@ use Rattle.w83782d_bus.specs.Bus.{state, powerOn, powerOnLatches, written, Writ
 use Rattle.w83782d_bus.specs.declared.Latches.{Latches}
 use Rattle.w83782d_bus.specs.declared.Wrote.{Wrote}
 use Rattle.w83782d_bus.specs.declared.Seen.{Seen}
+use Rattle.sensor.specs.Sensor.{armed}
+use Rattle.event.specs.declared.Sample.{Sample}
+use Rattle.w83782d_sample.specs.Sample as Rule
 use Rattle.w83782d.specs.declared.Monitor.{Monitor}
 use Rattle.w83782d.specs.declared.Answered.{Answered}
 use Rattle.w83782d.specs.declared.Shown.{Shown}
-use Rattle.w83782d.specs.Monitor.{stateOf, monitorOf, answered, shown, powerOnOf, writeOf, readOf}
+use Rattle.w83782d.specs.Monitor.{stateOf, monitorOf, answered, shown, powerOnOf, writeOf, readOf, sampleOf, ovtOf}
 
 abbrev pub monitor : List ℕ → Latches → Monitor
 monitor rs l = record { registers = rs; latches = l }
@@ -37,3 +41,24 @@ pub read-face : (m : Monitor) (ts : List ℕ) (r : Seen) (i : ℕ) → length (m
 read-face m ts r i h e =
     let f : seenIn ts r ≡ Bus.readOf (stateOf m) i = rw (eq-eqb (length (m .registers)) cells h) at e in
     ap shown f
+
+pub sample-face : (m : Monitor) (ts : List ℕ) (w : Wrote) (x : Sample) → length (m .registers) ≡ cells
+    → wroteIn ts w ≡ sized (m .registers) (m .latches) (Rule.sampleOf (stateOf m) x)
+    → record { monitor = monitor ts (w .latches); answer = w .answer } ≡ sampleOf m x
+sample-face m ts w x h e =
+    let f : wroteIn ts w ≡ Rule.sampleOf (stateOf m) x = rw (eq-eqb (length (m .registers)) cells h) at e in
+    ap answered f
+
+-- ---- OVT
+module _ (m : Monitor) (n : ℕ) where
+  pub ovt-2 : n ≡ 2 → getD (m .latches .remote) 0 armed .output .asserted ≡ ovtOf m n
+  unfolding ovtOf
+  ovt-2 e = rw e
+
+  pub ovt-3 : n ≡ 3 → getD (m .latches .remote) 1 armed .output .asserted ≡ ovtOf m n
+  unfolding ovtOf
+  ovt-3 e = rw e
+
+  pub ovt-none : (n ≡ 2 → ⊥) → (n ≡ 3 → ⊥) → false ≡ ovtOf m n
+  unfolding ovtOf
+  ovt-none p q = simp (ne-eqb n 2 p, ne-eqb n 3 q)

@@ -1,5 +1,12 @@
 -- The monitor by value: the definitions of the crates below, on its registers and latches.
+use mathlib.Core.Bool.{Bool, false}
 use Prim.Native.Nat.{ℕ}
+use lib.Dec.{eqb}
+use lib.ListN.{getD}
+use Rattle.bits.specs.Bits.{choose}
+use Rattle.sensor.specs.Sensor.{armed}
+use Rattle.event.specs.declared.Sample.{Sample}
+use Rattle.w83782d_sample.specs.Sample as Rule
 use Rattle.w83782d_bus.specs.Bus as Bus
 use Rattle.w83782d_bus.specs.Bus.{State, Written, Read, powerOn, openedLatches}
 use Rattle.w83782d.specs.declared.Monitor.{Monitor}
@@ -30,3 +37,13 @@ readOf m i = shown (Bus.readOf (stateOf m) i)
 -- "chassis opened": always answered 0
 abbrev pub openedOf : Monitor → Answered
 openedOf m = record { monitor = record { registers = m .registers; latches = openedLatches (m .latches) }; answer = 0 }
+
+abbrev pub sampleOf : Monitor → Sample → Answered
+sampleOf m x = answered (Rule.sampleOf (stateOf m) x)
+
+-- "OVT, for sensors 2 and 3": asserted or not
+unfoldable pub ovtOf : Monitor → ℕ → Bool
+ovtOf m n =
+    choose (eqb n 2) (getD (m .latches .remote) 0 armed .output .asserted)
+    (choose (eqb n 3) (getD (m .latches .remote) 1 armed .output .asserted)
+    false)

@@ -2,11 +2,19 @@
 // The work is done in place by the crates below; these methods are its thin face.
 ghost use mathlib.Core.Path.{_≡_};
 ghost use Rattle.w83782d_bus_laws.specs.Claims.{WriteClaims, ReadClaims, OpenedClaims};
-ghost use Rattle.w83782d.specs.Monitor.{stateOf, powerOnOf, writeOf, readOf, openedOf};
+ghost use Rattle.w83782d_readings.specs.Outputs.{smiOf, standingAlarms};
+ghost use Rattle.w83782d_readings.specs.Readings.{voltageOf, speedOf, temperatureOf, dutyOf};
+ghost use Rattle.w83782d.specs.Monitor.{stateOf, powerOnOf, writeOf, readOf, sampleOf, openedOf, ovtOf};
+use analog::Reading;
+use event::Sample;
+use fan::Speed;
 use w83782d_bus::Latches;
 use w83782d_bus::power_on_in;
 use w83782d_bus::read_in;
 use w83782d_bus::write_in;
+use w83782d_readings::Duty;
+use w83782d_readings::Temperature;
+use w83782d_sample::sample_in;
 
 // The registers, a cell for each, and what they do not hold.
 pub struct Monitor {
@@ -92,5 +100,93 @@ impl Monitor {
             monitor: self,
             answer: 0,
         }
+    }
+
+    // A sample: answered 0, or 3 or 4 with the monitor as it was.
+    pub fn sample(mut self, x: Sample) -> Answered
+        ensures { λ r. ⌜ r ≡ sampleOf self x ⌝ }
+    {
+        let mut registers = self.registers;
+        let latches = self.latches;
+        let done = sample_in(&mut registers, latches, x);
+        let after = done.latches;
+        self = Monitor {
+            registers,
+            latches: after,
+        };
+        Answered {
+            monitor: self,
+            answer: done.answer,
+        }
+    }
+
+    // Whether SMI is asserted.
+    pub fn smi(self) -> bool
+        ensures { λ r. ⌜ r ≡ smiOf (self .registers) (self .latches .chassis) ⌝ }
+    {
+        let registers = self.registers;
+        let latches = self.latches;
+        w83782d_readings::smi(&registers, latches.chassis)
+    }
+
+    // The number of standing alarms.
+    pub fn standing_alarms(self) -> u32
+        ensures { λ r. ⌜ r ≡ standingAlarms (self .registers) (self .latches .chassis) ⌝ }
+    {
+        let registers = self.registers;
+        let latches = self.latches;
+        w83782d_readings::standing_alarms(&registers, latches.chassis)
+    }
+
+    // Whether the OVT output of sensor 2 or 3 is asserted; no other sensor has one.
+    pub fn ovt(self, sensor: u8) -> bool
+        ensures { λ r. ⌜ r ≡ ovtOf self sensor ⌝ }
+    {
+        let latches = self.latches;
+        match sensor {
+            2 => {
+                let two = latches.remote[0];
+                let output = two.output;
+                output.asserted
+            }
+            3 => {
+                let three = latches.remote[1];
+                let output = three.output;
+                output.asserted
+            }
+            _ => false,
+        }
+    }
+
+    // The millivolts of a voltage channel, 0 to 6, with the resistors of the negative rails; any other is refused as 7.
+    pub fn voltage(self, channel: u8, r5: u32, r6: u32) -> Reading
+        ensures { λ r. ⌜ r ≡ voltageOf (self .registers) channel r5 r6 ⌝ }
+    {
+        let registers = self.registers;
+        w83782d_readings::voltage(&registers, channel, r5, r6)
+    }
+
+    // The speed of a fan, 1 to 3, by its stored count and the divisor now set; any other is refused as 7.
+    pub fn speed(self, fan: u8) -> Speed
+        ensures { λ r. ⌜ r ≡ speedOf (self .registers) fan ⌝ }
+    {
+        let registers = self.registers;
+        w83782d_readings::speed(&registers, fan)
+    }
+
+    // The temperature of a sensor, 1 to 3; any other is refused as 7.
+    pub fn temperature(self, sensor: u8) -> Temperature
+        ensures { λ r. ⌜ r ≡ temperatureOf (self .registers) sensor ⌝ }
+    {
+        let registers = self.registers;
+        w83782d_readings::temperature_of(&registers, sensor)
+    }
+
+    // How many of 256 parts PWM output 1 to 4 is on; any other is refused as 7.
+    pub fn duty(self, output: u8) -> Duty
+        ensures { λ r. ⌜ r ≡ dutyOf (self .registers) output ⌝ }
+    {
+        let registers = self.registers;
+        w83782d_readings::duty_of(&registers, output)
     }
 }

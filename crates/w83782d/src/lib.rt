@@ -2,6 +2,7 @@
 // The work is done in place by the crates below; these methods are its thin face.
 ghost use mathlib.Core.Path.{_≡_};
 ghost use Rattle.w83782d_bus_laws.specs.Claims.{WriteClaims, ReadClaims, OpenedClaims};
+ghost use Rattle.w83782d_sample_laws.specs.Claims.{SampleClaims};
 ghost use Rattle.w83782d_readings.specs.Outputs.{smiOf, standingAlarms};
 ghost use Rattle.w83782d_readings.specs.Readings.{voltageOf, speedOf, temperatureOf, dutyOf};
 ghost use Rattle.w83782d.specs.Monitor.{stateOf, powerOnOf, writeOf, readOf, sampleOf, openedOf, ovtOf};
@@ -104,7 +105,8 @@ impl Monitor {
 
     // A sample: answered 0, or 3 or 4 with the monitor as it was.
     pub fn sample(mut self, x: Sample) -> Answered
-        ensures { λ r. ⌜ r ≡ sampleOf self x ⌝ }
+        ensures equation { λ r. ⌜ r ≡ sampleOf self x ⌝ }
+        ensures claims { λ r. ⌜ SampleClaims (stateOf self) x ⌝ }
     {
         let mut registers = self.registers;
         let latches = self.latches;

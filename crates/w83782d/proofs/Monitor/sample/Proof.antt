@@ -1,4 +1,10 @@
 use borrow.Author.Needs.{needs}
+use Prim.Native.Nat.{ℕ}
+use mir.Val.{Fits}
+use mir.Syntax.{w8}
+use lib.ListN.{getD}
+use Rattle.w83782d.specs.Monitor.{stateOf}
+use Rattle.w83782d_sample_laws.proofs.Proved.{sample-claims}
 use Rattle.w83782d.proofs.Faces.{sample-face}
 use Rattle.w83782d.proofs.Monitor.sample.Statement.{statement}
 use Rattle.w83782d.proofs.Monitor.sample.Tie as tie
@@ -10,7 +16,10 @@ sample-in-requires : tie.Need-sample-in-requires
 sample-in-requires c κs = search needs
 
 returns : tie.Need-returns
-returns c = search (needs, sample-face)
+returns c =
+    let m = c .before .before .before .before .before .before .args .self in
+    let fits : (k : ℕ) → Fits w8 (getD (m .registers) k 0) = λ k. search needs in
+    (search (needs, sample-face), sample-claims (stateOf m) _ (record { count = search needs; bytes = λ k. fits k .fits }))
 
 pub sample-spec : {M : Type 1} → statement M
 sample-spec = tie.close (tie.spec slice-aggregate-sample-in sample-in-requires returns)

@@ -1,0 +1,92 @@
+-- The answer to a sample by its three tests, and the range of the half degrees by the two signs.
+-- Assumes nothing.
+use mathlib.Core.Path.{_≡_, refl, ap, ap₂, sym, _∙_}
+use mathlib.Core.Bool.{Bool, true, false, not, _&&_, _||_}
+use Prim.Native.Nat.{ℕ}
+use native.Mathlib.Omega.{arith}
+use borrow.Author.Tests.{ltb-true, ltb-false, lt-ltb, le-ltb}
+use lib.Dec.{eqb, ltb}
+use lib.IntN.{ℤ, pos, negsuc}
+use Rattle.bits.specs.Bits.{choose}
+use Rattle.analog.specs.Temperature.{half9, holds}
+use Rattle.event.specs.declared.Sample.{Sample}
+use Rattle.w83782d_bus.specs.Bus.{State}
+use Rattle.w83782d_sample.specs.Sample.{halvesOf, isFar, sampleAnswer, sampleOf}
+use Rattle.w83782d_sample_laws.specs.Claims.{isBeyond, isStandby, Refused}
+use Rattle.w83782d_sample_laws.proofs.Stores.{sample-answer, refused-state}
+
+-- ---- -256 to 255
+not-below : (n : ℕ) → not (ltb n 256) ≡ ltb 255 n
+not-below n = go (ltb n 256) refl
+  where
+    go : (b : Bool) → ltb n 256 ≡ b → not (ltb n 256) ≡ ltb 255 n
+    go true e = rw (e, le-ltb 255 n (omega (arith, ltb-true n 256 e)))
+    go false e = rw (e, lt-ltb 255 n (omega (arith, ltb-false n 256 e)))
+
+or-none : (b : Bool) → b ≡ (b || false)
+or-none true = refl
+or-none false = refl
+
+pub far-beyond : (t : ℤ) → isFar t ≡ isBeyond t
+far-beyond (pos n) = not-below n
+far-beyond (negsuc n) = not-below n ∙ or-none (ltb 255 n)
+
+-- ---- the three tests in order
+abbrev inOrder : Bool → Bool → Bool → ℕ
+inOrder a b c = choose a 3 (choose b 3 (choose c 4 0))
+
+is-3 : (a b c : Bool) → eqb (inOrder a b c) 3 ≡ (a || b)
+is-3 true b c = refl
+is-3 false true c = refl
+is-3 false false true = refl
+is-3 false false false = refl
+
+is-4 : (a b c : Bool) → eqb (inOrder a b c) 4 ≡ (not (a || b) && c)
+is-4 true b c = refl
+is-4 false true c = refl
+is-4 false false true = refl
+is-4 false false false = refl
+
+is-0 : (a b c : Bool) → eqb (inOrder a b c) 0 ≡ (not (a || b) && not c)
+is-0 true b c = refl
+is-0 false true c = refl
+is-0 false false true = refl
+is-0 false false false = refl
+
+module _ (s : State) (x : Sample) where
+  answered : sampleOf s x .answer ≡ inOrder (isBeyond (halvesOf x 2)) (isBeyond (halvesOf x 3)) (isStandby s)
+  unfolding sampleAnswer
+  answered = sample-answer s x ∙ ap₂ (λ (a b : Bool). inOrder a b (isStandby s)) (far-beyond (halvesOf x 2)) (far-beyond (halvesOf x 3))
+
+  pub refused : Refused s x
+  refused =
+      record {
+        three = ap (λ (a : ℕ). eqb a 3) answered ∙ is-3 (isBeyond (halvesOf x 2)) (isBeyond (halvesOf x 3)) (isStandby s);
+        four = ap (λ (a : ℕ). eqb a 4) answered ∙ is-4 (isBeyond (halvesOf x 2)) (isBeyond (halvesOf x 3)) (isStandby s);
+        accepted = ap (λ (a : ℕ). eqb a 0) answered ∙ is-0 (isBeyond (halvesOf x 2)) (isBeyond (halvesOf x 3)) (isStandby s);
+        unchanged = refused-state s x;
+      }
+
+-- ---- an accepted sample's temperatures are in range
+none-far : (a b c : Bool) → inOrder a b c ≡ 0 → (a ≡ false) × (b ≡ false)
+none-far true b c e = absurd (omega arith)
+none-far false true c e = absurd (omega arith)
+none-far false false c e = (refl, refl)
+
+not-far : (t : ℤ) → isFar t ≡ false → holds half9 t ≡ true
+not-far t e = go (holds half9 t) refl
+  where
+    go : (b : Bool) → holds half9 t ≡ b → holds half9 t ≡ true
+    go true h = h
+    go false h = let z : true ≡ false = sym (ap not h) ∙ e in cc
+
+module _ (s : State) (x : Sample) (a : sampleOf s x .answer ≡ 0) where
+  near : (isFar (halvesOf x 2) ≡ false) × (isFar (halvesOf x 3) ≡ false)
+  unfolding sampleAnswer
+  near = none-far (isFar (halvesOf x 2)) (isFar (halvesOf x 3)) (isStandby s) (sym (sample-answer s x) ∙ a)
+
+  pub in-range-2 : holds half9 (halvesOf x 2) ≡ true
+  in-range-2 = not-far (halvesOf x 2) (near .0)
+
+  pub in-range-3 : holds half9 (halvesOf x 3) ≡ true
+  in-range-3 = not-far (halvesOf x 3) (near .1)

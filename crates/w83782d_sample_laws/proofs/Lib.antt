@@ -1,0 +1,6 @@
+pub mod Stores
+pub mod Answers
+pub mod Conditions
+pub mod Smi
+pub mod Stored
+pub mod Proved

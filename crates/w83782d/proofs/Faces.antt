@@ -13,12 +13,14 @@ use Rattle.w83782d_bus.specs.declared.Latches.{Latches}
 use Rattle.w83782d_bus.specs.declared.Wrote.{Wrote}
 use Rattle.w83782d_bus.specs.declared.Seen.{Seen}
 use Rattle.sensor.specs.Sensor.{armed}
+use Rattle.event.specs.declared.Event.{Event}
 use Rattle.event.specs.declared.Sample.{Sample}
+use Rattle.w83782d_replay.specs.Replay as Replay
 use Rattle.w83782d_sample.specs.Sample as Rule
 use Rattle.w83782d.specs.declared.Monitor.{Monitor}
 use Rattle.w83782d.specs.declared.Answered.{Answered}
 use Rattle.w83782d.specs.declared.Shown.{Shown}
-use Rattle.w83782d.specs.Monitor.{stateOf, monitorOf, answered, shown, powerOnOf, writeOf, readOf, sampleOf, ovtOf}
+use Rattle.w83782d.specs.Monitor.{stateOf, monitorOf, answered, shown, powerOnOf, writeOf, readOf, sampleOf, applyOf, ovtOf}
 
 abbrev pub monitor : List ℕ → Latches → Monitor
 monitor rs l = record { registers = rs; latches = l }
@@ -48,6 +50,13 @@ pub sample-face : (m : Monitor) (ts : List ℕ) (w : Wrote) (x : Sample) → len
 sample-face m ts w x h e =
     let f : wroteIn ts w ≡ Rule.sampleOf (stateOf m) x = rw (eq-eqb (length (m .registers)) cells h) at e in
     ap answered f
+
+pub apply-face : (m : Monitor) (ts : List ℕ) (r : Seen) (e : Event) → length (m .registers) ≡ cells
+    → seenIn ts r ≡ sizedRead (m .registers) (m .latches) (Replay.applyOf (stateOf m) (e .kind) (e .sample))
+    → record { monitor = monitor ts (r .latches); answer = r .answer; byte = r .byte } ≡ applyOf m e
+apply-face m ts r e h g =
+    let f : seenIn ts r ≡ Replay.applyOf (stateOf m) (e .kind) (e .sample) = rw (eq-eqb (length (m .registers)) cells h) at g in
+    ap shown f
 
 -- ---- OVT
 module _ (m : Monitor) (n : ℕ) where

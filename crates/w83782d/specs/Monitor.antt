@@ -5,8 +5,10 @@ use lib.Dec.{eqb}
 use lib.ListN.{getD}
 use Rattle.bits.specs.Bits.{choose}
 use Rattle.sensor.specs.Sensor.{armed}
+use Rattle.event.specs.declared.Event.{Event}
 use Rattle.event.specs.declared.Sample.{Sample}
 use Rattle.w83782d_sample.specs.Sample as Rule
+use Rattle.w83782d_replay.specs.Replay as Replay
 use Rattle.w83782d_bus.specs.Bus as Bus
 use Rattle.w83782d_bus.specs.Bus.{State, Written, Read, powerOn, openedLatches}
 use Rattle.w83782d.specs.declared.Monitor.{Monitor}
@@ -40,6 +42,10 @@ openedOf m = record { monitor = record { registers = m .registers; latches = ope
 
 abbrev pub sampleOf : Monitor → Sample → Answered
 sampleOf m x = answered (Rule.sampleOf (stateOf m) x)
+
+-- "Four events: bus write, bus read, sample, chassis opened": any of them
+abbrev pub applyOf : Monitor → Event → Shown
+applyOf m e = shown (Replay.applyOf (stateOf m) (e .kind) (e .sample))
 
 -- "OVT, for sensors 2 and 3": asserted or not
 unfoldable pub ovtOf : Monitor → ℕ → Bool

@@ -5,8 +5,9 @@ ghost use Rattle.w83782d_bus_laws.specs.Claims.{WriteClaims, ReadClaims, Opened
 ghost use Rattle.w83782d_sample_laws.specs.Claims.{SampleClaims};
 ghost use Rattle.w83782d_readings.specs.Outputs.{smiOf, standingAlarms};
 ghost use Rattle.w83782d_readings.specs.Readings.{voltageOf, speedOf, temperatureOf, dutyOf};
-ghost use Rattle.w83782d.specs.Monitor.{stateOf, powerOnOf, writeOf, readOf, sampleOf, openedOf, ovtOf};
+ghost use Rattle.w83782d.specs.Monitor.{stateOf, powerOnOf, writeOf, readOf, sampleOf, openedOf, applyOf, ovtOf};
 use analog::Reading;
+use event::Event;
 use event::Sample;
 use fan::Speed;
 use w83782d_bus::Latches;
@@ -15,6 +16,7 @@ use w83782d_bus::read_in;
 use w83782d_bus::write_in;
 use w83782d_readings::Duty;
 use w83782d_readings::Temperature;
+use w83782d_replay::apply_in;
 use w83782d_sample::sample_in;
 
 // The registers, a cell for each, and what they do not hold.
@@ -119,6 +121,27 @@ impl Monitor {
         Answered {
             monitor: self,
             answer: done.answer,
+        }
+    }
+
+    // Any event: its answer, and the byte of an accepted read, else 0. A refused event leaves the monitor as it was.
+    pub fn apply(mut self, event: Event) -> Shown
+        ensures { λ r. ⌜ r ≡ applyOf self event ⌝ }
+    {
+        let mut registers = self.registers;
+        let latches = self.latches;
+        let kind = event.kind;
+        let sample = event.sample;
+        let done = apply_in(&mut registers, latches, kind, sample);
+        let after = done.latches;
+        self = Monitor {
+            registers,
+            latches: after,
+        };
+        Shown {
+            monitor: self,
+            answer: done.answer,
+            byte: done.byte,
         }
     }
 

@@ -85,6 +85,12 @@ read-2 : (p : Bool) → choose p 0 1 < 2
 read-2 true = lit< tt
 read-2 false = lit< tt
 
+pub write-below : (s : State) (i v : ℕ) → writeOf s i v .answer < 3
+write-below s i v = rw (write-answer s i v) (write-3 (reachOf (s .registers) i))
+
+pub read-below : (s : State) (i : ℕ) → readOf s i .answer < 2
+read-below s i = rw (read-answer s i) (read-2 (presentAt (reachOf (s .registers) i)))
+
 pub answers : (s : State) (i v : ℕ) → i < 256 → Answers s i v
 answers s i v hi =
     let c = reachOf (s .registers) i in
@@ -93,8 +99,8 @@ answers s i v hi =
       write1 = ap (λ (a : ℕ). eqb a 1) (write-answer s i v) ∙ write-1 c ∙ l;
       read1 = ap (λ (a : ℕ). eqb a 1) (read-answer s i) ∙ read-1 (presentAt c) ∙ l;
       write2 = ap (λ (a : ℕ). eqb a 2) (write-answer s i v) ∙ write-2 c;
-      no-other-write = rw (write-answer s i v) (write-3 c);
-      no-other-read = rw (read-answer s i) (read-2 (presentAt c));
+      no-other-write = write-below s i v;
+      no-other-read = read-below s i;
     }
 
 -- ---- a refused access

@@ -3,10 +3,11 @@
 use mathlib.Core.Path.{_≡_, refl, ap, ap₂, sym, _∙_}
 use mathlib.Core.Bool.{Bool, true, false, not, _&&_, and-false}
 use mathlib.Core.List.{List, [], _∷_}
-use Prim.Native.Nat.{ℕ, _+_, _-_, _<_, _≤_}
+use Prim.Native.Nat.{ℕ, _+_, _-_, _^_, _<_, _≤_}
 use borrow.Author.Tests.{ne-eqb, lt-ltb, le-ltb, not-true, not-false}
 use lib.Bits.{bitAnd, bitOr}
-use lib.Count.{ones}
+use native.Mathlib.Omega.{arith}
+use lib.Count.{ones, ones-le}
 use lib.Dec.{eqb, ltb}
 use lib.IntN.{ℤ}
 use lib.ListN.{getD}
@@ -46,6 +47,9 @@ module _ (rs : List ℕ) (chassis : Bool) (c : ℕ) (e : c ≡ getD rs configura
         → not (eqb (bitOr (bitAnd x (255 - m)) (bitAnd z (255 - k))) 0) ≡ smiOf rs chassis
     unfolding smiOf
     smi-told x m y z k t ex em ey ez ek = simp (← e, ← f, not-false a n, ← g, t, ← ex, ← em, ← ek, ← ey, ← ez)
+
+pub alarms-few : (x z : ℕ) → x < 2 ^ 8 → z < 2 ^ 8 → ones x + ones z ≤ 16
+alarms-few x z h k = omega (arith, ones-le 8 x h, ones-le 8 z k)
 
 pub alarms-counted : (rs : List ℕ) (chassis : Bool) (x y z : ℕ) → x ≡ getD rs interruptStatus1 0 → y ≡ getD rs interruptStatus2 0 → z ≡ withChassis y chassis
     → ones x + ones z ≡ standingAlarms rs chassis

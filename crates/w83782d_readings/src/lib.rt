@@ -1,6 +1,7 @@
 // What the monitor says besides its registers: SMI, standing alarms, and the readings of the stored values.
 // Each looks at the registers' slice and changes nothing; a cell beyond a short slice counts as 0.
 ghost use mathlib.Core.Path.{_≡_};
+ghost use Prim.Native.Nat.{_≤_};
 ghost use Rattle.w83782d_readings.specs.Outputs.{smiOf, standingAlarms};
 ghost use Rattle.w83782d_readings.specs.Readings.{voltageOf, speedOf, temperatureOf, dutyOf};
 use analog::Reading;
@@ -78,7 +79,8 @@ pub fn smi(s: &[u8], chassis: bool) -> bool
 
 // The number of standing alarms: the set bits of 41h and 42h.
 pub fn standing_alarms(s: &[u8], chassis: bool) -> u32
-    ensures { λ r. ⌜ r ≡ standingAlarms (now (s .entry)) chassis ⌝ }
+    ensures count { λ r. ⌜ r ≡ standingAlarms (now (s .entry)) chassis ⌝ }
+    ensures few { λ r. ⌜ r ≤ 16 ⌝ }
 {
     let first = cell(s, INTERRUPT_STATUS_1);
     let second = with_chassis(cell(s, INTERRUPT_STATUS_2), chassis);

@@ -2,10 +2,10 @@
 -- Assumes nothing.
 use mathlib.Core.Path.{_≡_, refl, ap, ap₂, sym, _∙_}
 use mathlib.Core.Bool.{Bool, true, false, not, _&&_, _||_}
-use Prim.Native.Nat.{ℕ}
+use Prim.Native.Nat.{ℕ, _<_}
 use native.Mathlib.Omega.{arith}
 use borrow.Author.Tests.{ltb-true, ltb-false, lt-ltb, le-ltb}
-use lib.Dec.{eqb, ltb}
+use lib.Dec.{eqb, ltb, lit<}
 use lib.IntN.{ℤ, pos, negsuc}
 use Rattle.bits.specs.Bits.{choose}
 use Rattle.analog.specs.Temperature.{half9, holds}
@@ -53,10 +53,19 @@ is-0 false true c = refl
 is-0 false false true = refl
 is-0 false false false = refl
 
+below-5 : (a b c : Bool) → inOrder a b c < 5
+below-5 true b c = lit< tt
+below-5 false true c = lit< tt
+below-5 false false true = lit< tt
+below-5 false false false = lit< tt
+
 module _ (s : State) (x : Sample) where
   answered : sampleOf s x .answer ≡ inOrder (isBeyond (halvesOf x 2)) (isBeyond (halvesOf x 3)) (isStandby s)
   unfolding sampleAnswer
   answered = sample-answer s x ∙ ap₂ (λ (a b : Bool). inOrder a b (isStandby s)) (far-beyond (halvesOf x 2)) (far-beyond (halvesOf x 3))
+
+  pub below : sampleOf s x .answer < 5
+  below = rw answered (below-5 (isBeyond (halvesOf x 2)) (isBeyond (halvesOf x 3)) (isStandby s))
 
   pub refused : Refused s x
   refused =

@@ -1,7 +1,7 @@
 use borrow.Author.Needs.{needs}
 use native.Mathlib.Omega.{arith}
 use lib.Count.{ones-le}
-use Rattle.w83782d_readings.proofs.Looks.{alarms-counted}
+use Rattle.w83782d_readings.proofs.Looks.{alarms-counted, alarms-few}
 use Rattle.w83782d_readings.proofs.standing_alarms.Statement.{statement}
 use Rattle.w83782d_readings.proofs.standing_alarms.Tie as tie
 
@@ -19,7 +19,7 @@ add-result c =
     omega (arith, ones-le 8 (c .before .before .cell .result) (c .before .before .cell .ok), ones-le 8 (c .with-chassis .result) (c .with-chassis .ok))
 
 returns : tie.Need-returns
-returns c = search (needs, alarms-counted)
+returns c = search (needs, alarms-counted, alarms-few)
 
 pub standing-alarms-spec : {M : Type 1} → statement M
 standing-alarms-spec =

@@ -8,9 +8,10 @@
  *
  * Every call ends, whatever its arguments, and what can be refused answers one
  * of the numbers below. A refused call leaves every byte that it was lent, and
- * what it returns beside the answer is 0. Two things are the caller's part: a
- * pointer leads to as many bytes as the length after it says, and the buffers of
- * one call don't overlap.
+ * what it returns beside the answer is 0. Only w83782d_replay, which is many
+ * calls in one, keeps what it did before a refusal. Two things are the caller's
+ * part: a pointer leads to as many bytes as the length after it says, and the
+ * buffers of one call don't overlap.
  *
  * To link: libw83782d_c.a, which `rt staticlib w83782d_c` writes to
  * target/staticlib/, and nothing else. It calls no function outside itself, not
@@ -45,12 +46,12 @@
 /* Sample while 40h bit 0 is 0 or bit 3 is 1. */
 #define W83782D_NOT_MONITORING 4
 /* Record not of 32 bytes, of unknown kind or with a byte not zero that should
- * be; or record k is not whole in the log. */
+ * be; or that record is not whole in the log. */
 #define W83782D_BAD_RECORD 5
 /* Planned speed 0 or above 1,350,000 rpm. */
 #define W83782D_BAD_SPEED 6
-/* Fan not 1 to 3, voltage channel not 0 to 6, or, for channels 5 and 6 only, a
- * resistor not 1 to 1,000 kilo-ohm. */
+/* Fan or temperature sensor not 1 to 3, voltage channel not 0 to 6, or, for
+ * channels 5 and 6 only, a resistor not 1 to 1,000 kilo-ohm. */
 #define W83782D_NO_CHANNEL 7
 /* Image, codes or output buffer of another length than the call needs. It comes
  * before every other refusal. */
@@ -61,6 +62,35 @@
 /* Of w83782d_read: answer * 256 + byte. */
 #define W83782D_READ_ANSWER(word) ((uint8_t)((word) >> 8))
 #define W83782D_READ_BYTE(word) ((uint8_t)((word) & 0xFF))
+
+/* Of w83782d_event: answer * 256 + byte. */
+#define W83782D_EVENT_ANSWER(word) ((uint8_t)((word) >> 8))
+#define W83782D_EVENT_BYTE(word) ((uint8_t)((word) & 0xFF))
+
+/* Of w83782d_replay: answer * 2^60 + records accepted. */
+#define W83782D_REPLAY_ANSWER(word) ((uint8_t)((word) >> 60))
+#define W83782D_REPLAY_ACCEPTED(word) ((uint64_t)((word) & 0x0FFFFFFFFFFFFFFF))
+
+/* Of w83782d_outputs: answer * 65536 + standing alarms * 256 + the three outputs,
+ * each 1 while it is asserted. */
+#define W83782D_OUTPUTS_ANSWER(word) ((uint8_t)((word) >> 16))
+#define W83782D_OUTPUTS_ALARMS(word) ((uint8_t)(((word) >> 8) & 0xFF))
+#define W83782D_OUTPUTS_SMI(word) ((uint8_t)((word) & 1))
+#define W83782D_OUTPUTS_OVT_2(word) ((uint8_t)(((word) >> 1) & 1))
+#define W83782D_OUTPUTS_OVT_3(word) ((uint8_t)(((word) >> 2) & 1))
+
+/* Of w83782d_speed: the kind in the top byte, the speed of a number below it. Any
+ * other kind is a refusal, 80h + answer; the answer is 0 where there is none. */
+#define W83782D_SPEED_KIND(word) ((uint8_t)((word) >> 24))
+#define W83782D_SPEED_ANSWER(word) ((uint8_t)((word) >> 31 ? ((word) >> 24) & 0x7F : 0))
+#define W83782D_SPEED_RPM(word) ((uint32_t)((word) & 0xFFFFFF))
+#define W83782D_NUMBER 0
+#define W83782D_TOO_FAST 1
+#define W83782D_TOO_SLOW 2
+
+/* Of w83782d_temperature: answer * 65536 + half degrees in two's complement. */
+#define W83782D_TEMPERATURE_ANSWER(word) ((uint8_t)((word) >> 16))
+#define W83782D_HALF_DEGREES(word) ((int16_t)((int)((word) & 0x7FFF) - (int)((word) & 0x8000)))
 
 /* Of w83782d_plan: answer * 65536 + divisor * 256 + limit. */
 #define W83782D_PLAN_ANSWER(word) ((uint8_t)((word) >> 16))
@@ -102,6 +132,56 @@ uint16_t w83782d_read(uint8_t *image, size_t n, uint8_t index);
  * a refusal leaves every byte of the image.
  */
 uint8_t w83782d_chassis_opened(uint8_t *image, size_t n);
+
+/*
+ * Sample: codes of the seven voltages, sensor 1 in whole degrees, sensors 2 and 3
+ * in half degrees, the undivided counts of fans 1 to 3. Stores them, sets the
+ * real-time bits, latches status and moves OVT. Answers 0, 8 (n, or v is not
+ * W83782D_VOLTAGES), 3 (t2 or t3 outside -256 to 255) or 4 (monitoring is
+ * stopped); a refusal leaves every byte of the image.
+ */
+uint8_t w83782d_sample(uint8_t *image, size_t n, const uint8_t *volts, size_t v, int8_t t1,
+                       int16_t t2, int16_t t3, uint32_t u1, uint32_t u2, uint32_t u3);
+
+/*
+ * The event of a record, with what the call of that event does. Returns
+ * answer * 256 + byte, the byte of an accepted bus read, else 0. The answer is 0,
+ * 8 (n), what w83782d_decode answers (5 or 3) or what the event is refused with
+ * (1, 2 or 4); a refusal leaves every byte of the image.
+ */
+uint16_t w83782d_event(uint8_t *image, size_t n, const uint8_t *record, size_t m);
+
+/*
+ * The events of a log, record by record, up to the first that is refused. Returns
+ * answer * 2^60 + records accepted; the answer is 0 at the end of the log, 5 at a
+ * part of a record there, or that of w83782d_event to the record that ended it.
+ * The image is as the accepted records leave it, whatever the answer: where none
+ * was accepted, and for 8 (n), every byte is left.
+ */
+uint64_t w83782d_replay(uint8_t *image, size_t n, const uint8_t *log, size_t m);
+
+/* ---- Outputs and readings of a monitor ---- */
+
+/*
+ * Standing alarms, the count of set bits in 41h and 42h, and the outputs SMI and
+ * OVT of sensors 2 and 3. Returns answer * 65536 + standing alarms * 256 + bit 0
+ * SMI, bit 1 OVT of sensor 2, bit 2 OVT of sensor 3; the answer is 0 or 8 (n).
+ */
+uint32_t w83782d_outputs(const uint8_t *image, size_t n);
+
+/*
+ * The speed of fan 1 to 3, from its stored count and the divisor now set. The top
+ * byte is W83782D_NUMBER, with the rpm in the low 24 bits, W83782D_TOO_FAST
+ * (count 0), W83782D_TOO_SLOW (count 255), or 80h + answer, 8 (n) or 7 (fan).
+ */
+uint32_t w83782d_speed(const uint8_t *image, size_t n, uint8_t fan);
+
+/*
+ * The stored temperature of sensor 1 to 3 in half degrees; sensor 1 has whole
+ * degrees. Returns answer * 65536 + half degrees as 16 bits in two's complement;
+ * the answer is 0, 8 (n) or 7 (sensor).
+ */
+uint32_t w83782d_temperature(const uint8_t *image, size_t n, uint8_t sensor);
 
 /* ---- Plans and readings that need no monitor ---- */
 

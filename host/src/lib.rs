@@ -1,9 +1,10 @@
 //! The hardware monitor W83782D for Rust firmware: a small safe face over the
 //! proved library.
 //!
-//! A [`Monitor`] answers bus accesses as the chip does. What the rules refuse is
-//! an `Err` with a [`Refusal`], and changes nothing. [`plan`], [`millivolts`] and
-//! [`pwm_parts`] need no monitor.
+//! A [`Monitor`] answers bus accesses as the chip does, takes samples and shows
+//! alarms, outputs and readings. What the rules refuse is an `Err` with a
+//! [`Refusal`], and changes nothing. [`plan`], [`millivolts`] and [`pwm_parts`]
+//! need no monitor.
 //!
 //! The proved code is the archive `libw83782d_c.a`, which `rt staticlib
 //! w83782d_c` makes for x86-64. It needs no other library; this crate needs only
@@ -12,10 +13,12 @@
 #![no_std]
 
 mod raw;
+mod readings;
 mod records;
 mod refusal;
 
-pub use records::{record_at, Record, Sample, RECORD_SIZE};
+pub use readings::{Outputs, Speed};
+pub use records::{record_at, Record, Replay, Sample, RECORD_SIZE};
 pub use refusal::Refusal;
 
 /// Bytes of a monitor's image.
@@ -90,6 +93,58 @@ impl Monitor {
         // SAFETY: pointer and length are those of the image, which is lent for the call.
         let answer = unsafe { raw::w83782d_chassis_opened(self.image.as_mut_ptr(), IMAGE_SIZE) };
         debug_assert_eq!(answer, 0, "refused only for an image of another length");
+    }
+
+    /// A sample: stores its readings, sets the real-time bits, latches status and
+    /// moves OVT. [`Refusal::BadTemperature`] or [`Refusal::NotMonitoring`] leaves
+    /// the monitor as it was.
+    ///
+    /// ```
+    /// use w83782d::{Monitor, Refusal, Sample, Speed};
+    ///
+    /// let mut monitor = Monitor::power_on();
+    /// // SMI enabled, monitoring started; no limit is set yet.
+    /// monitor.write(0x40, 0x03)?;
+    /// let sample = Sample {
+    ///     codes: [0; 7],
+    ///     sensor_1: -5,
+    ///     sensor_2: 81,
+    ///     sensor_3: 161,
+    ///     // Divisor 2 at power-on.
+    ///     counts: [306, 0, u32::MAX],
+    /// };
+    /// monitor.sample(&sample)?;
+    /// assert_eq!(monitor.speed(1), Ok(Speed::Rpm(4_412)));
+    /// assert_eq!(monitor.speed(2), Ok(Speed::TooFast));
+    /// assert_eq!(monitor.speed(3), Ok(Speed::TooSlow));
+    /// assert_eq!(monitor.temperature(1), Ok(-10));
+    /// assert_eq!(monitor.temperature(2), Ok(81));
+    /// assert_eq!(monitor.temperature(4), Err(Refusal::NoChannel));
+    /// // Fans 1 and 3, and sensor 3, which is above 80 degrees.
+    /// let outputs = monitor.outputs();
+    /// assert_eq!(outputs.standing_alarms, 3);
+    /// assert!(outputs.smi && !outputs.ovt2 && outputs.ovt3);
+    /// # Ok::<(), Refusal>(())
+    /// ```
+    pub fn sample(&mut self, sample: &Sample) -> Result<(), Refusal> {
+        let [u1, u2, u3] = sample.counts;
+        // SAFETY: each pointer and the length after it are those of an array, which is lent
+        // for the call; the two arrays are different ones.
+        let answer = unsafe {
+            raw::w83782d_sample(
+                self.image.as_mut_ptr(),
+                IMAGE_SIZE,
+                sample.codes.as_ptr(),
+                sample.codes.len(),
+                sample.sensor_1,
+                sample.sensor_2,
+                sample.sensor_3,
+                u1,
+                u2,
+                u3,
+            )
+        };
+        refusal::accepted(answer)
     }
 }
 

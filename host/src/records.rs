@@ -2,6 +2,7 @@
 
 use crate::raw;
 use crate::refusal::{self, Refusal};
+use crate::{Monitor, IMAGE_SIZE};
 
 /// Bytes of an event record.
 pub const RECORD_SIZE: usize = 32;
@@ -109,6 +110,73 @@ impl Record {
     /// As `made`, of a call that a whole buffer leaves nothing to refuse.
     fn whole(call: impl FnOnce(&mut [u8; RECORD_SIZE]) -> u8) -> Record {
         Record::made(call).expect("refused only for a buffer of another length")
+    }
+}
+
+/// How far a log was carried out.
+#[derive(Clone, Copy, Debug, PartialEq, Eq)]
+#[must_use]
+pub struct Replay {
+    /// Records that were accepted.
+    pub accepted: u64,
+    /// Whether the log was carried out to its end, or why the record after the
+    /// accepted ones was refused.
+    pub end: Result<(), Refusal>,
+}
+
+impl Monitor {
+    /// The event of a record, with what the call of that event does: the byte of a
+    /// bus read, 0 of any other event. What [`Record::decode`] refuses and what
+    /// the event is refused with leaves the monitor as it was.
+    ///
+    /// ```
+    /// use w83782d::{Monitor, Record, Refusal};
+    ///
+    /// let mut monitor = Monitor::power_on();
+    /// assert_eq!(monitor.apply(Record::read(0x58).bytes()), Ok(0x30));
+    /// assert_eq!(monitor.apply(Record::write(0x58, 0xFF).bytes()), Err(Refusal::ReadOnly));
+    /// assert_eq!(monitor.apply(&[0xFF; 32]), Err(Refusal::BadRecord));
+    /// ```
+    pub fn apply(&mut self, record: &[u8]) -> Result<u8, Refusal> {
+        // SAFETY: each pointer and the length after it are those of bytes that are lent for
+        // the call; nothing else is in the image, which is borrowed alone.
+        let word = unsafe {
+            raw::w83782d_event(
+                self.image.as_mut_ptr(),
+                IMAGE_SIZE,
+                record.as_ptr(),
+                record.len(),
+            )
+        };
+        let [answer, byte] = word.to_be_bytes();
+        refusal::accepted(answer)?;
+        Ok(byte)
+    }
+
+    /// The events of a log, record by record, up to the first that is refused; a
+    /// part of a record at the end is [`Refusal::BadRecord`]. The monitor is as the
+    /// accepted records leave it.
+    ///
+    /// ```
+    /// use w83782d::{Monitor, Record, Refusal, Replay};
+    ///
+    /// let log = [Record::chassis_opened(), Record::write(0x58, 0xFF)].map(|record| *record.bytes());
+    /// let mut monitor = Monitor::power_on();
+    /// let replay = monitor.replay(log.as_flattened());
+    /// assert_eq!(replay, Replay { accepted: 1, end: Err(Refusal::ReadOnly) });
+    /// // The chassis bit of 42h.
+    /// assert_eq!(monitor.read(0x42), Ok(0x10));
+    /// ```
+    pub fn replay(&mut self, log: &[u8]) -> Replay {
+        // SAFETY: each pointer and the length after it are those of bytes that are lent for
+        // the call; nothing else is in the image, which is borrowed alone.
+        let word = unsafe {
+            raw::w83782d_replay(self.image.as_mut_ptr(), IMAGE_SIZE, log.as_ptr(), log.len())
+        };
+        Replay {
+            accepted: word % (1 << 60),
+            end: refusal::accepted((word >> 60) as u8),
+        }
     }
 }
 

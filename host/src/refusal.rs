@@ -3,7 +3,8 @@
 use core::error::Error;
 use core::fmt::{Display, Formatter, Result as Written};
 
-/// Why a call was refused. A refused call changes nothing.
+/// Why a call was refused. A refused call changes nothing;
+/// [`Monitor::replay`](crate::Monitor::replay) is many calls.
 ///
 /// ```
 /// use w83782d::{Monitor, Refusal};
@@ -29,8 +30,8 @@ pub enum Refusal {
     BadRecord = 5,
     /// Planned speed 0 or above 1,350,000 rpm.
     BadSpeed = 6,
-    /// Fan not 1 to 3, voltage channel not 0 to 6, or, for channels 5 and 6 only,
-    /// a resistor not 1 to 1,000 kilo-ohm.
+    /// Fan or temperature sensor not 1 to 3, voltage channel not 0 to 6, or, for
+    /// channels 5 and 6 only, a resistor not 1 to 1,000 kilo-ohm.
     NoChannel = 7,
     /// Buffer of another length than the call needs.
     BadLength = 8,
@@ -46,7 +47,7 @@ impl Refusal {
     ///
     /// The proved library answers no other number. One that does is of another
     /// edition than this crate.
-    fn from_number(number: u8) -> Refusal {
+    pub(crate) fn from_number(number: u8) -> Refusal {
         match number {
             1 => Refusal::NoRegister,
             2 => Refusal::ReadOnly,
@@ -70,7 +71,7 @@ impl Display for Refusal {
             Refusal::NotMonitoring => "monitoring is stopped",
             Refusal::BadRecord => "no such record or not a record",
             Refusal::BadSpeed => "speed out of range",
-            Refusal::NoChannel => "no such fan, channel or resistor",
+            Refusal::NoChannel => "no such fan, sensor, channel or resistor",
             Refusal::BadLength => "buffer of the wrong length",
         })
     }

@@ -116,14 +116,14 @@ fn exported() -> Functions {
 
 #[test]
 fn the_header_and_the_rust_declarations_have_the_same_types() {
-    assert!(declared_in_c().len() >= 14);
+    assert!(declared_in_c().len() >= 20);
     assert_eq!(declared_in_c(), declared_in_rust());
 }
 
 #[test]
 fn every_exported_function_is_declared_with_its_types() {
     let declared = declared_in_c();
-    assert!(exported().len() >= 8);
+    assert!(exported().len() >= 20);
     for (name, types) in exported() {
         assert_eq!(declared.get(&name), Some(&types), "{name}");
     }

@@ -1,21 +1,24 @@
 //! Single calls, exhaustive where the choices are few.
 
 use crate::boundary;
-use crate::calls::{agrees, library, Call};
+use crate::calls::{agrees, Call, LIBRARY};
+use crate::events::record_of;
 use crate::image::{in_bank, near_power_on, power_on, random, Image, CHASSIS, LENGTH, SPARE};
 use crate::report::explain;
 use crate::rng::Rng;
+use crate::samples::near_sample;
+use reference::Event;
 
 fn hold(start: &Image, call: Call, origin: &str) {
     assert!(
-        agrees(library, start, call),
+        agrees(LIBRARY, start, &call),
         "{}",
-        explain(library, start, &[call], origin)
+        explain(LIBRARY, start, &[call], origin)
     );
 }
 
 /// Power-on, all ones, all zeros, zeros with odd flags, then random ones by seed.
-fn starts(random_ones: u64) -> Vec<(String, Image)> {
+pub fn starts(random_ones: u64) -> Vec<(String, Image)> {
     let mut odd_flags = [0; LENGTH];
     odd_flags[CHASSIS..].fill(0xA5);
     let mut starts = vec![
@@ -127,7 +130,12 @@ fn no_call_reaches_beyond_the_image() {
             boundary::read(image, index);
             boundary::write(image, index, rng.byte());
             boundary::chassis_opened(image);
+            let record = record_of(&Event::Read { index });
+            boundary::event(image, &record);
+            boundary::replay(image, &[record, record].concat());
             boundary::power_on(image);
+            let sample = near_sample(&mut rng);
+            boundary::sample(image, &sample.codes, &sample);
             assert_eq!(lent[..BESIDE], [GUARD; BESIDE]);
             assert_eq!(lent[BESIDE + LENGTH..], [GUARD; BESIDE]);
         }

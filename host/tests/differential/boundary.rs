@@ -1,11 +1,13 @@
 //! The C functions, with slices for pointer and length: the wrapper can't lend
 //! an image of another length, and these tests must.
 
+use reference::Sample;
+
 #[path = "../../src/raw.rs"]
 mod raw;
 
-/// Answer and byte.
-pub type Answer = (u8, u8);
+/// Answer, and the byte of a read or the records that a replay accepted.
+pub type Answer = (u8, u64);
 
 pub fn power_on(image: &mut [u8]) -> u8 {
     // SAFETY: pointer and length are those of the slice.
@@ -21,7 +23,70 @@ pub fn write(image: &mut [u8], index: u8, value: u8) -> u8 {
 pub fn read(image: &mut [u8], index: u8) -> Answer {
     // SAFETY: pointer and length are those of the slice.
     let word = unsafe { raw::w83782d_read(image.as_mut_ptr(), image.len(), index) };
-    ((word / 256) as u8, (word % 256) as u8)
+    ((word / 256) as u8, (word % 256).into())
+}
+
+/// The sample's codes are lent apart, so that their length may be wrong.
+pub fn sample(image: &mut [u8], volts: &[u8], sample: &Sample) -> u8 {
+    // SAFETY: each pointer and the length after it are those of a slice.
+    unsafe {
+        raw::w83782d_sample(
+            image.as_mut_ptr(),
+            image.len(),
+            volts.as_ptr(),
+            volts.len(),
+            sample.t1,
+            sample.t2,
+            sample.t3,
+            sample.u[0],
+            sample.u[1],
+            sample.u[2],
+        )
+    }
+}
+
+/// "answer * 256 + byte"
+pub fn event(image: &mut [u8], record: &[u8]) -> Answer {
+    // SAFETY: each pointer and the length after it are those of a slice.
+    let word = unsafe {
+        raw::w83782d_event(
+            image.as_mut_ptr(),
+            image.len(),
+            record.as_ptr(),
+            record.len(),
+        )
+    };
+    ((word / 256) as u8, (word % 256).into())
+}
+
+/// "answer * 2^60 + records accepted"
+pub fn replay(image: &mut [u8], log: &[u8]) -> Answer {
+    // SAFETY: each pointer and the length after it are those of a slice.
+    let word =
+        unsafe { raw::w83782d_replay(image.as_mut_ptr(), image.len(), log.as_ptr(), log.len()) };
+    ((word >> 60) as u8, word % (1 << 60))
+}
+
+/// "answer * 65536 + standing alarms * 256 + bit 0 SMI, bit 1 OVT of sensor 2,
+/// bit 2 OVT of sensor 3"
+pub fn outputs(image: &[u8]) -> (u32, u32, u32) {
+    // SAFETY: pointer and length are those of the slice.
+    let word = unsafe { raw::w83782d_outputs(image.as_ptr(), image.len()) };
+    (word / 65536, word / 256 % 256, word % 256)
+}
+
+/// "top byte" and "low 24 bits"
+pub fn speed(image: &[u8], fan: u8) -> (u32, u32) {
+    // SAFETY: pointer and length are those of the slice.
+    let word = unsafe { raw::w83782d_speed(image.as_ptr(), image.len(), fan) };
+    (word >> 24, word & 0x00FF_FFFF)
+}
+
+/// "answer * 65536 + half degrees"
+pub fn temperature(image: &[u8], sensor: u8) -> (u32, i16) {
+    // SAFETY: pointer and length are those of the slice.
+    let word = unsafe { raw::w83782d_temperature(image.as_ptr(), image.len(), sensor) };
+    (word / 65536, (word % 65536) as i16)
 }
 
 pub fn chassis_opened(image: &mut [u8]) -> u8 {

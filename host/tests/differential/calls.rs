@@ -2,53 +2,108 @@
 
 use crate::boundary::{self, Answer};
 use crate::image::{image_of, state_in, Image, LENGTH, SPARE};
+use crate::looks::{self, Looks};
+use crate::samples::wrapped;
 use reference::answer::ACCEPTED;
-use reference::Monitor;
+use reference::{decode, Event, Monitor, Sample};
 
-#[derive(Clone, Copy, Debug, PartialEq, Eq)]
+#[derive(Clone, Debug, PartialEq, Eq)]
 pub enum Call {
     PowerOn,
-    Write { index: u8, value: u8 },
-    Read { index: u8 },
+    Write {
+        index: u8,
+        value: u8,
+    },
+    Read {
+        index: u8,
+    },
     ChassisOpened,
+    Sample(Sample),
+    /// A record, good or not, of any length.
+    Event {
+        record: Vec<u8>,
+    },
+    Replay {
+        log: Vec<u8>,
+    },
 }
 
-/// Carries out a call on an image: what is tested.
-pub type Subject = fn(&mut Image, Call) -> Answer;
+impl From<Event> for Call {
+    fn from(event: Event) -> Call {
+        match event {
+            Event::Write { index, value } => Call::Write { index, value },
+            Event::Read { index } => Call::Read { index },
+            Event::Sample(sample) => Call::Sample(sample),
+            Event::Chassis => Call::ChassisOpened,
+        }
+    }
+}
+
+/// What is tested: how a call is carried out on an image, and what is then seen.
+#[derive(Clone, Copy)]
+pub struct Subject {
+    pub call: CarryOut,
+    pub looks: Look,
+}
+
+pub type CarryOut = fn(&mut Image, &Call) -> Answer;
+pub type Look = fn(&Image) -> Looks;
+
+pub const LIBRARY: Subject = Subject {
+    call: library,
+    looks: looks::library,
+};
+
+pub const WRAPPER: Subject = Subject {
+    call: wrapper,
+    looks: looks::wrapper,
+};
 
 /// The library through its C boundary.
-pub fn library(image: &mut Image, call: Call) -> Answer {
+pub fn library(image: &mut Image, call: &Call) -> Answer {
     match call {
         Call::PowerOn => (boundary::power_on(image), 0),
-        Call::Write { index, value } => (boundary::write(image, index, value), 0),
-        Call::Read { index } => boundary::read(image, index),
+        Call::Write { index, value } => (boundary::write(image, *index, *value), 0),
+        Call::Read { index } => boundary::read(image, *index),
         Call::ChassisOpened => (boundary::chassis_opened(image), 0),
+        Call::Sample(sample) => (boundary::sample(image, &sample.codes, sample), 0),
+        Call::Event { record } => boundary::event(image, record),
+        Call::Replay { log } => boundary::replay(image, log),
     }
 }
 
 /// The library through the wrapper.
-pub fn wrapper(image: &mut Image, call: Call) -> Answer {
+fn wrapper(image: &mut Image, call: &Call) -> Answer {
     let mut monitor = w83782d::Monitor::from_image(*image);
+    let mut accepted = 0;
     let byte = match call {
         Call::PowerOn => {
             monitor = w83782d::Monitor::power_on();
             Ok(0)
         }
-        Call::Write { index, value } => monitor.write(index, value).map(|()| 0),
-        Call::Read { index } => monitor.read(index),
+        Call::Write { index, value } => monitor.write(*index, *value).map(|()| 0),
+        Call::Read { index } => monitor.read(*index),
         Call::ChassisOpened => {
             monitor.chassis_opened();
             Ok(0)
         }
+        Call::Sample(sample) => monitor.sample(&wrapped(sample)).map(|()| 0),
+        Call::Event { record } => monitor.apply(record),
+        Call::Replay { log } => {
+            let replay = monitor.replay(log);
+            accepted = replay.accepted;
+            replay.end.map(|()| 0)
+        }
     };
     *image = *monitor.image();
     match byte {
-        Ok(byte) => (ACCEPTED, byte),
-        Err(refusal) => (refusal.number(), 0),
+        Ok(byte) => (ACCEPTED, accepted + u64::from(byte)),
+        Err(refusal) => (refusal.number(), accepted),
     }
 }
 
 /// What is expected: `reference`'s monitor, and the image that goes with it.
+#[derive(Clone)]
 pub struct Expected {
     monitor: Monitor,
     pub image: Image,
@@ -63,40 +118,66 @@ impl Expected {
     }
 
     /// An accepted call leaves its state in the image and keeps the spare bytes,
-    /// which power-on sets to 0. A refused call leaves every byte.
-    pub fn call(&mut self, call: Call) -> Answer {
+    /// which power-on sets to 0. A refused call leaves every byte, and so does a
+    /// replay that accepted no record; any other replay is an accepted call.
+    pub fn call(&mut self, call: &Call) -> Answer {
         let mut spare = [0; LENGTH - SPARE];
         spare.copy_from_slice(&self.image[SPARE..]);
-        let (answer, byte) = match call {
+        let (answer, more) = match call {
             Call::PowerOn => {
                 self.monitor = Monitor::power_on();
                 spare.fill(0);
                 (ACCEPTED, 0)
             }
-            Call::Write { index, value } => (self.monitor.write(index, value), 0),
-            Call::Read { index } => self.monitor.read(index),
+            Call::Write { index, value } => (self.monitor.write(*index, *value), 0),
+            Call::Read { index } => with_byte(self.monitor.read(*index)),
             Call::ChassisOpened => (self.monitor.chassis_opened(), 0),
+            Call::Sample(sample) => (self.monitor.sample(sample), 0),
+            Call::Event { record } => match decode(record) {
+                Ok(event) => with_byte(self.monitor.apply(&event)),
+                Err(refusal) => (refusal, 0),
+            },
+            Call::Replay { log } => self.monitor.replay(log),
         };
-        if answer == ACCEPTED {
+        let changed = match call {
+            Call::Replay { .. } => more > 0,
+            _ => answer == ACCEPTED,
+        };
+        if changed {
             self.image = image_of(&self.monitor, &spare);
         }
-        (answer, byte)
+        (answer, more)
+    }
+
+    pub fn looks(&self) -> Looks {
+        looks::expected(&self.monitor)
     }
 }
 
-/// Whether one call from an image agrees.
-pub fn agrees(subject: Subject, start: &Image, call: Call) -> bool {
+fn with_byte((answer, byte): (u8, u8)) -> Answer {
+    (answer, byte.into())
+}
+
+/// Whether one call from an image agrees, without what is then seen.
+pub fn agrees(subject: Subject, start: &Image, call: &Call) -> bool {
     let mut expected = Expected::from(start);
     let mut found = *start;
-    subject(&mut found, call) == expected.call(call) && found == expected.image
+    (subject.call)(&mut found, call) == expected.call(call) && found == expected.image
+}
+
+/// Carries out one more call on both sides: whether the answers, what is then
+/// seen and the images agree.
+pub fn step(subject: Subject, expected: &mut Expected, found: &mut Image, call: &Call) -> bool {
+    (subject.call)(found, call) == expected.call(call)
+        && (subject.looks)(found) == expected.looks()
+        && *found == expected.image
 }
 
 /// The place of the first call of a list that does not agree.
 pub fn first_disagreement(subject: Subject, start: &Image, calls: &[Call]) -> Option<usize> {
     let mut expected = Expected::from(start);
     let mut found = *start;
-    calls.iter().position(|&call| {
-        let answer = subject(&mut found, call);
-        answer != expected.call(call) || found != expected.image
-    })
+    calls
+        .iter()
+        .position(|call| !step(subject, &mut expected, &mut found, call))
 }

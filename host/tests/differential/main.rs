@@ -2,16 +2,19 @@
 //!
 //! Every call goes through the C boundary (or through the wrapper over it), and
 //! the answer, the byte and all 128 bytes of the image after it are held to what
-//! `reference` gives. What is expected comes from `reference` or from the paper,
+//! `reference` gives, and in lists of calls what is seen of the monitor too. What is expected comes from `reference` or from the paper,
 //! never from the library.
 
 mod accesses;
 mod boundary;
 mod calls;
+mod events;
 mod image;
+mod looks;
 mod planted;
 mod readings;
 mod records;
 mod report;
 mod rng;
+mod samples;
 mod sequences;

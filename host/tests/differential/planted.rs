@@ -2,8 +2,9 @@
 //! list to the calls that show it. So silence elsewhere means something.
 
 use crate::boundary::Answer;
-use crate::calls::{first_disagreement, library, Call, Subject};
+use crate::calls::{first_disagreement, library, Call, CarryOut, Look, Subject, LIBRARY};
 use crate::image::{power_on, Image, CHASSIS, SPARE};
+use crate::looks::{self, Looks};
 use crate::report::{explain, shrink};
 use crate::sequences::{calls, start, AIMS};
 use reference::cell;
@@ -15,64 +16,64 @@ fn bank(image: &Image) -> u8 {
     image[cell(0, 0x4E)] & 0x07
 }
 
-fn chassis_cleared_by_read(image: &mut Image, call: Call) -> Answer {
+fn chassis_cleared_by_read(image: &mut Image, call: &Call) -> Answer {
     let answer = library(image, call);
-    if call == (Call::Read { index: 0x42 }) {
+    if *call == (Call::Read { index: 0x42 }) {
         image[CHASSIS] = 0;
     }
     answer
 }
 
-fn all_of_47h_stored(image: &mut Image, call: Call) -> Answer {
+fn all_of_47h_stored(image: &mut Image, call: &Call) -> Answer {
     let answer = library(image, call);
     if let Call::Write { index: 0x47, value } = call {
-        image[cell(0, 0x47)] = value;
+        image[cell(0, 0x47)] = *value;
     }
     answer
 }
 
 /// 7Bh refused where 5Bh is: the bank is one of 3, 5, 6 and 7.
-fn aliases_banked(image: &mut Image, call: Call) -> Answer {
+fn aliases_banked(image: &mut Image, call: &Call) -> Answer {
     match call {
         Call::Read { index: 0x7B } if [3, 5, 6, 7].contains(&bank(image)) => (1, 0),
         _ => library(image, call),
     }
 }
 
-fn address_lost_by_reset(image: &mut Image, call: Call) -> Answer {
+fn address_lost_by_reset(image: &mut Image, call: &Call) -> Answer {
     let answer = library(image, call);
-    if matches!(call, Call::Write { index: 0x40, value } if value >= 0x80) {
+    if matches!(call, Call::Write { index: 0x40, value } if *value >= 0x80) {
         image[cell(0, 0x48)] = 0x2D;
     }
     answer
 }
 
-fn other_sensor_released(image: &mut Image, call: Call) -> Answer {
+fn other_sensor_released(image: &mut Image, call: &Call) -> Answer {
     let answer = library(image, call);
-    if call == (Call::Read { index: 0x50 }) && bank(image) == 1 {
+    if *call == (Call::Read { index: 0x50 }) && bank(image) == 1 {
         image[OVT_3] = 0;
     }
     answer
 }
 
 /// Reading the low byte releases too, whatever the mode.
-fn released_by_51h(image: &mut Image, call: Call) -> Answer {
+fn released_by_51h(image: &mut Image, call: &Call) -> Answer {
     let answer = library(image, call);
-    if call == (Call::Read { index: 0x51 }) && bank(image) == 2 {
+    if *call == (Call::Read { index: 0x51 }) && bank(image) == 2 {
         image[OVT_3] = 0;
     }
     answer
 }
 
-fn released_in_comparator_mode(image: &mut Image, call: Call) -> Answer {
+fn released_in_comparator_mode(image: &mut Image, call: &Call) -> Answer {
     let answer = library(image, call);
-    if call == (Call::Read { index: 0x50 }) && bank(image) == 2 {
+    if *call == (Call::Read { index: 0x50 }) && bank(image) == 2 {
         image[OVT_3] = 0;
     }
     answer
 }
 
-fn flags_tidied_by_refusal(image: &mut Image, call: Call) -> Answer {
+fn flags_tidied_by_refusal(image: &mut Image, call: &Call) -> Answer {
     let answer = library(image, call);
     for flag in &mut image[CHASSIS..SPARE] {
         *flag = u8::from(*flag != 0);
@@ -80,31 +81,150 @@ fn flags_tidied_by_refusal(image: &mut Image, call: Call) -> Answer {
     answer
 }
 
-fn odd_flags_kept(image: &mut Image, call: Call) -> Answer {
+fn odd_flags_kept(image: &mut Image, call: &Call) -> Answer {
     let before = *image;
     let answer = library(image, call);
-    if call == Call::ChassisOpened && before[113] != 0 {
+    if *call == Call::ChassisOpened && before[113] != 0 {
         image[113] = before[113];
     }
     answer
 }
 
-fn spare_byte_cleared(image: &mut Image, call: Call) -> Answer {
+fn spare_byte_cleared(image: &mut Image, call: &Call) -> Answer {
     let answer = library(image, call);
     image[SPARE] = 0;
     answer
 }
 
-fn byte_of_refused_read(image: &mut Image, call: Call) -> Answer {
+fn byte_of_refused_read(image: &mut Image, call: &Call) -> Answer {
     match library(image, call) {
         (1, _) if matches!(call, Call::Read { .. }) => (1, 0xFF),
         answer => answer,
     }
 }
 
+/// Of a sample that was refused, the first code is stored all the same.
+fn code_stored_by_refused_sample(image: &mut Image, call: &Call) -> Answer {
+    let answer = library(image, call);
+    if let (Call::Sample(sample), 4) = (call, answer.0) {
+        image[cell(0, 0x20)] = sample.codes[0];
+    }
+    answer
+}
+
+/// A mark that is hot stays hot over a reset.
+fn mark_kept_by_reset(image: &mut Image, call: &Call) -> Answer {
+    let hot = image[113] == 1;
+    let answer = library(image, call);
+    if matches!(call, Call::Write { index: 0x40, value } if *value >= 0x80) && hot {
+        image[113] = 1;
+    }
+    answer
+}
+
+/// An OVT mark that follows the status mark.
+fn one_mark_for_both(image: &mut Image, call: &Call) -> Answer {
+    let answer = library(image, call);
+    if matches!(call, Call::Sample(_)) && answer.0 == 0 {
+        image[115] = image[114];
+    }
+    answer
+}
+
+/// A mode write arms at once.
+fn armed_by_mode_write(image: &mut Image, call: &Call) -> Answer {
+    let answer = library(image, call);
+    if matches!(call, Call::Write { index: 0x4C, .. }) && answer.0 == 0 {
+        image[114] = 0;
+    }
+    answer
+}
+
+/// 51h bits 6-0 as they were before the sample.
+fn low_bits_kept_by_sample(image: &mut Image, call: &Call) -> Answer {
+    let before = image[cell(2, 0x51)];
+    let answer = library(image, call);
+    if matches!(call, Call::Sample(_)) && answer.0 == 0 {
+        image[cell(2, 0x51)] |= before & 0x7F;
+    }
+    answer
+}
+
+fn byte_of_recorded_write(image: &mut Image, call: &Call) -> Answer {
+    let answer = library(image, call);
+    match call {
+        Call::Event { record } if answer.0 == 0 && record[0] == 1 => (0, record[2].into()),
+        _ => answer,
+    }
+}
+
+/// All of a log or nothing.
+fn replay_taken_back(image: &mut Image, call: &Call) -> Answer {
+    let before = *image;
+    let answer = library(image, call);
+    if matches!(call, Call::Replay { .. }) && answer.0 != 0 {
+        *image = before;
+    }
+    answer
+}
+
+fn part_of_a_record_passed_over(image: &mut Image, call: &Call) -> Answer {
+    let answer = library(image, call);
+    match call {
+        Call::Replay { log } if answer.1 == log.len() as u64 / 32 => (0, answer.1),
+        _ => answer,
+    }
+}
+
+fn refused_record_counted(image: &mut Image, call: &Call) -> Answer {
+    let answer = library(image, call);
+    match call {
+        Call::Replay { .. } if answer.0 != 0 => (answer.0, answer.1 + 1),
+        _ => answer,
+    }
+}
+
+fn flags_tidied_by_empty_replay(image: &mut Image, call: &Call) -> Answer {
+    let answer = library(image, call);
+    if matches!(call, Call::Replay { log } if log.is_empty()) {
+        image[113] = u8::from(image[113] != 0);
+    }
+    answer
+}
+
+fn smi_dropped_by_stop(image: &Image) -> Looks {
+    let mut looks = looks::library(image);
+    if image[cell(0, 0x40)] & 0x01 == 0 {
+        looks.outputs.2 &= !1;
+    }
+    looks
+}
+
+fn chassis_no_alarm(image: &Image) -> Looks {
+    let mut looks = looks::library(image);
+    looks.outputs.1 -= u32::from(image[CHASSIS] != 0);
+    looks
+}
+
+fn count_255_a_number(image: &Image) -> Looks {
+    let mut looks = looks::library(image);
+    for speed in &mut looks.speeds {
+        if *speed == (2, 0) {
+            *speed = (0, 1_350_000 / 255);
+        }
+    }
+    looks
+}
+
+fn half_degree_lost(image: &Image) -> Looks {
+    let mut looks = looks::library(image);
+    looks.temperatures[2].1 &= !1;
+    looks
+}
+
 #[test]
 fn every_planted_fault_is_found() {
-    let faults: [(&str, Subject); 11] = [
+    let faults: [(&str, CarryOut); 21] = [
         ("chassis_cleared_by_read", chassis_cleared_by_read),
         ("all_of_47h_stored", all_of_47h_stored),
         ("aliases_banked", aliases_banked),
@@ -116,21 +236,49 @@ fn every_planted_fault_is_found() {
         ("odd_flags_kept", odd_flags_kept),
         ("spare_byte_cleared", spare_byte_cleared),
         ("byte_of_refused_read", byte_of_refused_read),
+        (
+            "code_stored_by_refused_sample",
+            code_stored_by_refused_sample,
+        ),
+        ("mark_kept_by_reset", mark_kept_by_reset),
+        ("one_mark_for_both", one_mark_for_both),
+        ("armed_by_mode_write", armed_by_mode_write),
+        ("low_bits_kept_by_sample", low_bits_kept_by_sample),
+        ("byte_of_recorded_write", byte_of_recorded_write),
+        ("replay_taken_back", replay_taken_back),
+        ("part_of_a_record_passed_over", part_of_a_record_passed_over),
+        ("refused_record_counted", refused_record_counted),
+        ("flags_tidied_by_empty_replay", flags_tidied_by_empty_replay),
     ];
-    for (name, fault) in faults {
-        let found = AIMS.into_iter().any(|aim| {
-            (0..200).any(|seed| {
-                first_disagreement(fault, &start(seed), &calls(aim, seed, 50)).is_some()
-            })
-        });
-        assert!(found, "{name}");
+    for (name, call) in faults {
+        assert!(is_found(faulty(call)), "{name}");
+    }
+    let faults: [(&str, Look); 4] = [
+        ("smi_dropped_by_stop", smi_dropped_by_stop),
+        ("chassis_no_alarm", chassis_no_alarm),
+        ("count_255_a_number", count_255_a_number),
+        ("half_degree_lost", half_degree_lost),
+    ];
+    for (name, looks) in faults {
+        assert!(is_found(Subject { looks, ..LIBRARY }), "{name}");
     }
 }
 
+fn faulty(call: CarryOut) -> Subject {
+    Subject { call, ..LIBRARY }
+}
+
+fn is_found(fault: Subject) -> bool {
+    AIMS.into_iter().any(|aim| {
+        (0..200)
+            .any(|seed| first_disagreement(fault, &start(seed), &calls(aim, seed, 50)).is_some())
+    })
+}
+
 /// The calls that are left of a long list from power-on.
-fn shrunk(fault: Subject) -> Vec<Call> {
+fn shrunk(call: CarryOut) -> Vec<Call> {
     let list = calls(AIMS[0], 7, 20_000);
-    shrink(fault, &power_on(), &list)
+    shrink(faulty(call), &power_on(), &list)
 }
 
 #[test]
@@ -154,12 +302,30 @@ fn a_disagreement_shrinks_to_the_calls_that_show_it() {
             Call::Write { index: 0x40, .. }
         ]
     ));
+    assert!(matches!(
+        shrunk(code_stored_by_refused_sample)[..],
+        [Call::Write { index: 0x40, .. }, Call::Sample(_)]
+    ));
+}
+
+/// A log keeps one record that is accepted and one that is refused.
+#[test]
+fn a_replay_shrinks_to_the_records_that_show_it() {
+    let list = shrunk(replay_taken_back);
+    assert!(
+        matches!(&list[..], [Call::Replay { log }] if (33..=64).contains(&log.len())),
+        "{list:?}"
+    );
+    let fault = faulty(replay_taken_back);
+    let text = explain(fault, &power_on(), &list, "seed 7");
+    assert!(text.contains("\nreplay\n  ["), "{text}");
 }
 
 #[test]
 fn a_disagreement_is_told_with_its_seed_calls_and_places() {
     let list = shrunk(chassis_cleared_by_read);
-    let text = explain(chassis_cleared_by_read, &power_on(), &list, "seed 7");
+    let fault = faulty(chassis_cleared_by_read);
+    let text = explain(fault, &power_on(), &list, "seed 7");
     for line in [
         "seed 7: disagreement",
         "chassis opened",

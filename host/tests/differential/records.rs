@@ -2,59 +2,15 @@
 
 use crate::boundary::records as boundary;
 use crate::rng::Rng;
+use crate::samples::{any_sample, wrapped, HALF_DEGREES};
 use reference::{Event, Sample, RECORD_LENGTH};
 use w83782d::Record;
 
 /// Lengths that a buffer of 32 bytes must not have.
 const OTHER_LENGTHS: [usize; 8] = [0, 1, 7, 31, 33, 63, 64, 128];
 
-/// Half degrees at the ends of what is allowed, and of what a record can hold.
-const HALF_DEGREES: [i16; 12] = [
-    i16::MIN,
-    -32_512,
-    -512,
-    -257,
-    -256,
-    -255,
-    -1,
-    0,
-    255,
-    256,
-    511,
-    i16::MAX,
-];
-
-fn bytes(rng: &mut Rng, length: usize) -> Vec<u8> {
+pub fn bytes(rng: &mut Rng, length: usize) -> Vec<u8> {
     (0..length).map(|_| rng.byte()).collect()
-}
-
-/// Any sample, its temperatures mostly near the ends of their range.
-fn any_sample(rng: &mut Rng) -> Sample {
-    let mut codes = [0; 7];
-    codes.fill_with(|| rng.byte());
-    let mut half_degrees = || match rng.below(4) {
-        0 => rng.next() as i16,
-        1 => rng.pick(&HALF_DEGREES),
-        _ => rng.below(512) as i16 - 256,
-    };
-    let (t2, t3) = (half_degrees(), half_degrees());
-    Sample {
-        codes,
-        t1: rng.byte() as i8,
-        t2,
-        t3,
-        u: [(); 3].map(|()| rng.next() as u32 >> rng.below(32)),
-    }
-}
-
-fn wrapped(sample: &Sample) -> w83782d::Sample {
-    w83782d::Sample {
-        codes: sample.codes,
-        sensor_1: sample.t1,
-        sensor_2: sample.t2,
-        sensor_3: sample.t3,
-        counts: sample.u,
-    }
 }
 
 // ---- Decoding

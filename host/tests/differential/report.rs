@@ -2,6 +2,8 @@
 
 use crate::calls::{first_disagreement, Call, Expected, Subject};
 use crate::image::{Image, LENGTH};
+use crate::looks::Looks;
+use reference::{decode, RECORD_LENGTH};
 use std::fmt::Write;
 
 /// Holds a list of calls to `reference`; `origin` says how to make it again.
@@ -13,14 +15,18 @@ pub fn hold(subject: Subject, start: &Image, calls: &[Call], origin: &str) {
 }
 
 /// The calls up to the first that doesn't agree, and then without those that the
-/// disagreement doesn't need: large parts are tried first, single calls last.
+/// disagreement doesn't need: large parts are tried first, single calls last. Then
+/// logs and records are made simpler.
 pub fn shrink(subject: Subject, start: &Image, calls: &[Call]) -> Vec<Call> {
     let mut shown = prefix(subject, start, calls).expect("the calls disagree");
     let mut part = shown.len().div_ceil(2);
     loop {
         match without_a_part(subject, start, &shown, part) {
             Some(fewer) => shown = fewer,
-            None if part == 1 => return shown,
+            None if part == 1 => match with_a_simpler_call(subject, start, &shown) {
+                Some(simpler) => shown = simpler,
+                None => return shown,
+            },
             None => part = part.div_ceil(2),
         }
         part = part.min(shown.len());
@@ -46,6 +52,37 @@ fn without_a_part(
     })
 }
 
+/// A list that disagrees, with one call in a simpler form.
+fn with_a_simpler_call(subject: Subject, start: &Image, calls: &[Call]) -> Option<Vec<Call>> {
+    (0..calls.len()).find_map(|place| {
+        simpler(&calls[place]).into_iter().find_map(|call| {
+            let mut simpler = calls.to_vec();
+            simpler[place] = call;
+            prefix(subject, start, &simpler)
+        })
+    })
+}
+
+/// For a log, the logs without one of its records, or its only record; for a
+/// record, the call of its event.
+fn simpler(call: &Call) -> Vec<Call> {
+    match call {
+        Call::Replay { log } if log.len() == RECORD_LENGTH => vec![Call::Event {
+            record: log.clone(),
+        }],
+        Call::Replay { log } => {
+            let starts = (0..log.len()).step_by(RECORD_LENGTH);
+            let shorter = starts.map(|from| {
+                let to = log.len().min(from + RECORD_LENGTH);
+                [&log[..from], &log[to..]].concat()
+            });
+            shorter.map(|log| Call::Replay { log }).collect()
+        }
+        Call::Event { record } => decode(record).ok().map(Call::from).into_iter().collect(),
+        _ => vec![],
+    }
+}
+
 /// The start, the calls, and what the last of them should have given.
 pub fn explain(subject: Subject, start: &Image, calls: &[Call], origin: &str) -> String {
     let mut text = format!("{origin}: disagreement\nstart:\n");
@@ -54,13 +91,14 @@ pub fn explain(subject: Subject, start: &Image, calls: &[Call], origin: &str) ->
     }
     let mut expected = Expected::from(start);
     let mut found = *start;
-    for &call in calls {
-        let answers = (expected.call(call), subject(&mut found, call));
+    tell_looks(&mut text, expected.looks(), (subject.looks)(&found));
+    for call in calls {
+        let answers = (expected.call(call), (subject.call)(&mut found, call));
         let _ = writeln!(text, "{}", in_words(call));
         if answers.0 != answers.1 {
             let _ = writeln!(
                 text,
-                "  (answer, byte): expected {:02X?}, found {:02X?}",
+                "  (answer, byte or records): expected {:02X?}, found {:02X?}",
                 answers.0, answers.1
             );
         }
@@ -73,16 +111,30 @@ pub fn explain(subject: Subject, start: &Image, calls: &[Call], origin: &str) ->
                 found[at]
             );
         }
+        tell_looks(&mut text, expected.looks(), (subject.looks)(&found));
     }
     text
 }
 
-fn in_words(call: Call) -> String {
+fn tell_looks(text: &mut String, expected: Looks, found: Looks) {
+    if expected != found {
+        let _ = writeln!(text, "  expected {expected:?},\n  found    {found:?}");
+    }
+}
+
+fn in_words(call: &Call) -> String {
     match call {
         Call::PowerOn => "power-on".into(),
         Call::Write { index, value } => format!("write {value:02X}h to {index:02X}h"),
         Call::Read { index } => format!("read {index:02X}h"),
         Call::ChassisOpened => "chassis opened".into(),
+        Call::Sample(sample) => format!("{sample:?}"),
+        Call::Event { record } => format!("event {record:02X?}"),
+        Call::Replay { log } => log
+            .chunks(RECORD_LENGTH)
+            .fold("replay".into(), |text, record| {
+                format!("{text}\n  {record:02X?}")
+            }),
     }
 }
 

@@ -133,6 +133,7 @@ fn rare(aim: Aim, rng: &mut Rng) -> Call {
 }
 
 impl Aim {
+    /// An index for a bus access.
     pub fn index(self, rng: &mut Rng) -> u8 {
         let any = rng.byte();
         let listed = 0x20 + rng.below(0x60) as u8;
@@ -175,6 +176,7 @@ impl Aim {
         }
     }
 
+    /// A byte to write to an index.
     pub fn value(self, index: u8, rng: &mut Rng) -> u8 {
         let sampled = matches!(self, Aim::Samples);
         let reset_allowed = matches!(self, Aim::Resets) || rng.one_in(8);

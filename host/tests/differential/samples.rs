@@ -73,7 +73,7 @@ pub fn near_sample(rng: &mut Rng) -> Sample {
         t1,
         t2: 2 * high_2 + half(),
         t3: 2 * high_3 + half(),
-        u: counts.map(|count| (count << rng.below(8)).wrapping_add(rng.below(3) as u32 - 1)),
+        u: counts.map(|count| (count << rng.below(8)).wrapping_add(rng.pick(&[u32::MAX, 0, 1]))),
     };
     if rng.one_in(32) {
         sample.t3 = rng.pick(&HALF_DEGREES);

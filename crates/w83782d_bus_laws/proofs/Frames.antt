@@ -44,7 +44,7 @@ same-latches : (s : State) (rs : List ℕ) → SameLatches s (state rs (s .latch
 same-latches s rs = record { chassis = refl; marks = same-marks s rs (s .latches .chassis); asserted = λ n h. refl }
 
 -- ---- a store
-module _ (s : State) (w : Whole s) (c v : ℕ) (hc : c < cells) where
+module _ (s : State) (w : length (s .registers) ≡ cells) (c v : ℕ) (hc : c < cells) where
   abbrev after : State
   after = state (changes (s .registers) (change c (storedBits c) v ∷ [])) (s .latches)
 
@@ -53,8 +53,8 @@ module _ (s : State) (w : Whole s) (c v : ℕ) (hc : c < cells) where
   stores =
       record {
         elsewhere = λ k n. getD-set-other (s .registers) c k _ 0 n;
-        kept = λ j hj e. ap (λ (x : ℕ). bit x j) (getD-set-same (s .registers) c _ 0 (omega (arith, w .count))) ∙ merge-kept (cellIn s c) (storedBits c) v j (stored-byte c hc) hj (bit-off (storedBits c) j e);
-        given = λ j hj e. ap (λ (x : ℕ). bit x j) (getD-set-same (s .registers) c _ 0 (omega (arith, w .count))) ∙ merge-given (cellIn s c) (storedBits c) v j (stored-byte c hc) hj (bit-on (storedBits c) j e);
+        kept = λ j hj e. ap (λ (x : ℕ). bit x j) (getD-set-same (s .registers) c _ 0 (omega (arith, w))) ∙ merge-kept (cellIn s c) (storedBits c) v j (stored-byte c hc) hj (bit-off (storedBits c) j e);
+        given = λ j hj e. ap (λ (x : ℕ). bit x j) (getD-set-same (s .registers) c _ 0 (omega (arith, w))) ∙ merge-given (cellIn s c) (storedBits c) v j (stored-byte c hc) hj (bit-on (storedBits c) j e);
         latches = same-latches s _;
       }
 
@@ -67,7 +67,7 @@ shown-same rs ts b k e f = go (ℕ-discrete k vendorId)
     go (yes q) = rw (q, f q)
     go (no n) = simp (ne-eqb k vendorId n, e)
 
-module _ (s : State) (w : Whole s) (c v : ℕ) (hc : c < cells) where
+module _ (s : State) (w : length (s .registers) ≡ cells) (c v : ℕ) (hc : c < cells) where
   shows : Shows s (after s w c v hc) c
   shows =
       record {
@@ -93,7 +93,7 @@ write-stores s i v a n =
     let m = no-command (eqb c configuration) (eqb c chassisClear) (isOn v 7) n in
     simp (eq-eqb (writeAnswer c) 0 a, m .0, m .1)
 
-pub stored : (s : State) (i v : ℕ) → Whole s → Stored s i v
+pub stored : (s : State) (i v : ℕ) → length (s .registers) ≡ cells → Stored s i v
 stored s i v w a n =
     let c = reachOf (s .registers) i in
     let z : writeAnswer (reachOf (s .registers) i) ≡ 0 = sym (write-answer s i v) ∙ a in
@@ -256,14 +256,14 @@ answered-present s i a = go (presentAt (reachOf (s .registers) i)) refl
     go true e = e
     go false e = absurd (omega (arith, sym a ∙ read-answer s i ∙ ap (λ (b : Bool). choose b 0 1) e))
 
-pub leaves : (s : State) (i : ℕ) → Whole s → ReadLeaves s i
+pub leaves : (s : State) (i : ℕ) → length (s .registers) ≡ cells → ReadLeaves s i
 leaves s i w a =
     let c = reachOf (s .registers) i in
     let p : presentAt (reachOf (s .registers) i) ≡ true = answered-present s i a in
     let h : reachOf (s .registers) i < cells = present-cell c p in
     rw (read-state s i p)
     (record {
-      cells = λ k. read-cells (s .registers) c k (omega (arith, w .count));
+      cells = λ k. read-cells (s .registers) c k (omega (arith, w));
       chassis = read-chassis (s .registers) (s .latches) c .0;
       marks =
           record {

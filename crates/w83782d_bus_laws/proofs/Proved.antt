@@ -13,12 +13,12 @@ write-claims s i v w h =
       refused = refused s i v;
       alias = alias s i v;
       unbanked = unbanked i;
-      selected = selected s v w;
+      selected = selected s v (w .count);
       absent = absent s i v;
-      stored = stored s i v w;
+      stored = stored s i v (w .count);
       cleared = cleared s v w;
       reset = reset s v;
     }
 
 pub read-claims : (s : State) (i : ℕ) → Whole s → ReadClaims s i
-read-claims s i w = record { leaves = leaves s i w; shown = shown s }
+read-claims s i w = record { leaves = leaves s i (w .count); shown = shown s }

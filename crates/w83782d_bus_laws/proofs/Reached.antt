@@ -20,7 +20,7 @@ use Rattle.bits.proofs.Every.{every-at2, beq-same}
 use Rattle.w83782d_bus.specs.Map.{cells, presentAt, writableAt, rows, bankSelect}
 use Rattle.w83782d_bus.specs.Bus.{State, cellOf, bankOf, reachOf, writeAnswer, writtenRegisters, storedBits, writeOf, Written, readOf, Read}
 use Rattle.w83782d_bus.proofs.Cells.{present, present-rows, present-out, cell-alias, cell-any, cell-below, cell-above}
-use Rattle.w83782d_bus_laws.specs.Claims.{Whole, answers1, Answers, Refused, Alias, Unbanked, BankSelected, AbsentBank, isAbsent}
+use Rattle.w83782d_bus_laws.specs.Claims.{answers1, Answers, Refused, Alias, Unbanked, BankSelected, AbsentBank, isAbsent}
 
 -- ---- answers
 pub write-answer : (s : State) (i v : ℕ) → writeOf s i v .answer ≡ writeAnswer (reachOf (s .registers) i)
@@ -160,12 +160,12 @@ written-4E : (rs : List ℕ) (v : ℕ) → length rs ≡ cells → bankOf (writt
 unfolding writtenRegisters changes
 written-4E rs v h = rw (stored-4E, getD-set-same rs bankSelect (mergeOf (getD rs bankSelect 0) 0b1000_0111 v) 0 (omega arith)) (merge-low (getD rs bankSelect 0) v)
 
-pub selected : (s : State) (v : ℕ) → Whole s → BankSelected s v
+pub selected : (s : State) (v : ℕ) → length (s .registers) ≡ cells → BankSelected s v
 unfolding writeOf
 selected s v w =
     record {
       accepted = write-answer s 0x4E v ∙ ap writeAnswer (cell-4E (bankOf (s .registers))) ∙ answer-4E;
-      selects = rw (cell-4E, answer-4E) (written-4E (s .registers) v (w .count));
+      selects = rw (cell-4E, answer-4E) (written-4E (s .registers) v w);
     }
 
 -- in an absent bank there is no cell from 50h to 5Fh

@@ -10,7 +10,7 @@ use borrow.Author.Tests.{ne-eqb}
 use lib.Bits.{bitOr}
 use lib.Dec.{ltb, lit<}
 use lib.IntN.{ℤ}
-use lib.ListN.{getD}
+use lib.ListN.{getD, length}
 use lib.Signed.{ltZ}
 use Rattle.bits.specs.Bits.{bit, flagOf}
 use Rattle.bits.proofs.BitLaws.{or-bit}
@@ -26,7 +26,7 @@ use Rattle.w83782d_bus.specs.Map.{cells, interruptStatus1, interruptStatus2, re
 use Rattle.w83782d_bus.specs.Bus.{State, latches}
 use Rattle.w83782d_sample.specs.Sample.{Source, firstByte, secondByte, voltage, highLimit, lowLimit, fanCount, fanLimit, sensor1Value, sensor1Over, sensor1Hysteresis, bankCell, ovtProperty, realTimeStatus1, voltageOf, halvesOf, countOf, isOutside, isAbove, isBelow, isSlow, statusMode, outputMode, remoteOf, statusAt, outputAt, condition, latchedBy, verdicts, latchedByte, readings, storedReadings, steppedLatches, sampleOf}
 use Rattle.w83782d_sample.specs.Sample.Source.{rail, sensor, fan, chassis}
-use Rattle.w83782d_sample_laws.specs.Claims.{Whole, halvesIn, Stores, cellIn, after, isBeside, isHotter, isColder, isSlower, holdsFor, flagAt, Fits, RealTime, FanRings, statusFor, outputFor, latchesFor, StatusOr, LatchesAfter}
+use Rattle.w83782d_sample_laws.specs.Claims.{halvesIn, Stores, cellIn, after, isBeside, isHotter, isColder, isSlower, holdsFor, flagAt, Fits, RealTime, FanRings, statusFor, outputFor, latchesFor, StatusOr, LatchesAfter}
 use Rattle.w83782d_sample_laws.proofs.Stores.{lastOf, cellsOf, isOf, stored-at, stored-other, accepted-state, left-at}
 use Rattle.w83782d_sample_laws.proofs.Answers.{in-range-2, in-range-3}
 
@@ -46,7 +46,7 @@ nine-lt high low h l = omega arith
 nine-code : (z : ℤ) → holds half9 z ≡ true → nineBits (halfHigh (halfCodeOf z)) (halfLow (halfCodeOf z)) ≡ codeOf half9 z
 nine-code z e = rw (← half-in z (codeOf half9 z) e refl) (twos-complement-holds .bytes (codeOf half9 z))
 
-module _ (s : State) (x : Sample) (w : Whole s) where
+module _ (s : State) (x : Sample) (w : length (s .registers) ≡ cells) where
   abbrev t : List ℕ
   t = storedReadings (s .registers) x
 
@@ -58,7 +58,7 @@ module _ (s : State) (x : Sample) (w : Whole s) where
   stays c = isOf c (cellsOf (readings (s .registers) x)) ≡ false
 
   at : (c : ℕ) → c < cells → getD t c 0 ≡ given c
-  at c h = stored-at (s .registers) x c (rw (w .count) h)
+  at c h = stored-at (s .registers) x c (rw (w) h)
 
   kept : (c : ℕ) → stays c → getD t c 0 ≡ cellIn s c
   kept c n = stored-other (s .registers) x c n
@@ -73,21 +73,21 @@ module _ (s : State) (x : Sample) (w : Whole s) where
   fan-is f h g n = simp (at (fanCount f) h ∙ g, kept (fanLimit f) n)
 
   -- ---- sensor 1
-  module _ (fits : Fits x) where
+  module _ (b : (c : ℕ) → cellIn s c < 256) (fits : Fits x) where
     above-1 : isAbove t 1 ≡ isHotter s x 1
     unfolding isAbove isHotter
     above-1 =
         ap₂ (λ (a b : ℕ). ltb (levelOf half8 a) (levelOf half8 b)) (kept sensor1Over refl) (at sensor1Value (lit< tt))
-        ∙ level-above half8 (x .sensor1) (cellIn s sensor1Over) fits (w .bytes sensor1Over)
+        ∙ level-above half8 (x .sensor1) (cellIn s sensor1Over) fits (b sensor1Over)
 
     below-1 : isBelow t 1 ≡ isColder s x 1
     unfolding isBelow isColder
     below-1 =
         ap₂ (λ (a b : ℕ). ltb (levelOf half8 a) (levelOf half8 b)) (at sensor1Value (lit< tt)) (kept sensor1Hysteresis refl)
-        ∙ level-below half8 (x .sensor1) (cellIn s sensor1Hysteresis) fits (w .bytes sensor1Hysteresis)
+        ∙ level-below half8 (x .sensor1) (cellIn s sensor1Hysteresis) fits (b sensor1Hysteresis)
 
   -- ---- sensors 2 and 3, over the number
-  module _ (n : ℕ) (m : n ≢ 1) (e : holds half9 (halvesOf x n) ≡ true) (h : bankCell n < cells) (h′ : bankCell n + 1 < cells)
+  module _ (b : (c : ℕ) → cellIn s c < 256) (n : ℕ) (m : n ≢ 1) (e : holds half9 (halvesOf x n) ≡ true) (h : bankCell n < cells) (h′ : bankCell n + 1 < cells)
       (g : given (bankCell n) ≡ halfHigh (halfCodeOf (halvesOf x n))) (g′ : given (bankCell n + 1) ≡ halfLow (halfCodeOf (halvesOf x n))) where
     value-is : nineBits (getD t (bankCell n) 0) (getD t (bankCell n + 1) 0) ≡ codeOf half9 (halvesOf x n)
     value-is = ap₂ nineBits (at (bankCell n) h ∙ g) (at (bankCell n + 1) h′ ∙ g′) ∙ nine-code (halvesOf x n) e
@@ -98,7 +98,7 @@ module _ (s : State) (x : Sample) (w : Whole s) where
         simp (ne-eqb n 1 m)
         (ap₂ (λ (a b : ℕ). ltb (levelOf half9 a) (levelOf half9 b)) (ap₂ nineBits (kept (bankCell n + 5) k) (kept (bankCell n + 5 + 1) k′)) value-is
         ∙ level-above half9 (halvesOf x n) (nineBits (cellIn s (bankCell n + 5)) (cellIn s (bankCell n + 5 + 1))) e
-        (nine-lt _ _ (w .bytes (bankCell n + 5)) (w .bytes (bankCell n + 5 + 1))))
+        (nine-lt _ _ (b (bankCell n + 5)) (b (bankCell n + 5 + 1))))
 
     below-n : stays (bankCell n + 3) → stays (bankCell n + 3 + 1) → isBelow t n ≡ isColder s x n
     unfolding isBelow isColder
@@ -106,7 +106,7 @@ module _ (s : State) (x : Sample) (w : Whole s) where
         simp (ne-eqb n 1 m)
         (ap₂ (λ (a b : ℕ). ltb (levelOf half9 a) (levelOf half9 b)) value-is (ap₂ nineBits (kept (bankCell n + 3) k) (kept (bankCell n + 3 + 1) k′))
         ∙ level-below half9 (halvesOf x n) (nineBits (cellIn s (bankCell n + 3)) (cellIn s (bankCell n + 3 + 1))) e
-        (nine-lt _ _ (w .bytes (bankCell n + 3)) (w .bytes (bankCell n + 3 + 1))))
+        (nine-lt _ _ (b (bankCell n + 3)) (b (bankCell n + 3 + 1))))
 
   -- ---- the modes that a sample finds
   status-mode : (n : ℕ) → statusMode t n ≡ statusMode (s .registers) n
@@ -124,12 +124,12 @@ three-one : _≡_ {A = ℕ} 3 1 → ⊥
 three-one z = omega arith
 
 -- ---- bits of an accepted sample
-module _ (s : State) (x : Sample) (w : Whole s) (a : sampleOf s x .answer ≡ 0) where
+module _ (s : State) (x : Sample) (w : length (s .registers) ≡ cells) (a : sampleOf s x .answer ≡ 0) where
   real-bit : (j : ℕ) → (bit (cellIn (after s x) realTimeStatus1) j ≡ flagAt (condition (t s x w)) firstByte j)
       × (bit (cellIn (after s x) realTimeStatus2) j ≡ flagAt (condition (t s x w)) secondByte j)
   real-bit j = (
-    ap (λ (b : ℕ). bit b j) (left-at s x realTimeStatus1 a (rw (w .count) (lit< tt))) ∙ word-bit (map (condition (t s x w)) firstByte) j,
-    ap (λ (b : ℕ). bit b j) (left-at s x realTimeStatus2 a (rw (w .count) (lit< tt))) ∙ word-bit (map (condition (t s x w)) secondByte) j,
+    ap (λ (b : ℕ). bit b j) (left-at s x realTimeStatus1 a (rw (w) (lit< tt))) ∙ word-bit (map (condition (t s x w)) firstByte) j,
+    ap (λ (b : ℕ). bit b j) (left-at s x realTimeStatus2 a (rw (w) (lit< tt))) ∙ word-bit (map (condition (t s x w)) secondByte) j,
   )
 
   latched-bit : (j : ℕ)
@@ -137,18 +137,18 @@ module _ (s : State) (x : Sample) (w : Whole s) (a : sampleOf s x .answer ≡ 0)
       × (bit (cellIn (after s x) interruptStatus2) j ≡ max (bit (cellIn s interruptStatus2) j) (flagAt (latchedBy (t s x w) (s .latches)) secondByte j))
   latched-bit j = (
     ap (λ (b : ℕ). bit b j)
-        (left-at s x interruptStatus1 a (rw (w .count) (lit< tt)) ∙ ap (λ (o : ℕ). bitOr o (latchedByte (t s x w) (s .latches) firstByte)) (at s x w interruptStatus1 (lit< tt)))
+        (left-at s x interruptStatus1 a (rw (w) (lit< tt)) ∙ ap (λ (o : ℕ). bitOr o (latchedByte (t s x w) (s .latches) firstByte)) (at s x w interruptStatus1 (lit< tt)))
         ∙ or-bit (cellIn s interruptStatus1) (latchedByte (t s x w) (s .latches) firstByte) j
         ∙ ap (max (bit (cellIn s interruptStatus1) j)) (word-bit (map (latchedBy (t s x w) (s .latches)) firstByte) j),
     ap (λ (b : ℕ). bit b j)
-        (left-at s x interruptStatus2 a (rw (w .count) (lit< tt)) ∙ ap (λ (o : ℕ). bitOr o (latchedByte (t s x w) (s .latches) secondByte)) (at s x w interruptStatus2 (lit< tt)))
+        (left-at s x interruptStatus2 a (rw (w) (lit< tt)) ∙ ap (λ (o : ℕ). bitOr o (latchedByte (t s x w) (s .latches) secondByte)) (at s x w interruptStatus2 (lit< tt)))
         ∙ or-bit (cellIn s interruptStatus2) (latchedByte (t s x w) (s .latches) secondByte) j
         ∙ ap (max (bit (cellIn s interruptStatus2) j)) (word-bit (map (latchedBy (t s x w) (s .latches)) secondByte) j),
   )
 
   -- ---- the readings themselves
   reading : (c : ℕ) → c < cells → cellIn (after s x) c ≡ lastOf (verdicts (t s x w) (s .latches)) c (given s x w c)
-  reading c h = left-at s x c a (rw (w .count) h)
+  reading c h = left-at s x c a (rw (w) h)
 
   codes : (i : ℕ) → i < 7 → cellIn (after s x) (voltage i) ≡ voltageOf x i
   codes zero h = reading 0 (lit< tt)
@@ -198,17 +198,19 @@ module _ (s : State) (x : Sample) (w : Whole s) (a : sampleOf s x .answer ≡ 0)
   fan-rings (suc (suc (suc zero))) h k = real-bit 3 .1 ∙ ap flagOf (fan-is s x w 3 (lit< tt) refl refl)
   fan-rings (suc (suc (suc (suc f)))) h k = absurd (omega arith)
 
+-- ---- where the cells are bytes: the sensors' conditions and steps
+module _ (s : State) (x : Sample) (w : length (s .registers) ≡ cells) (b : (c : ℕ) → cellIn s c < 256) (a : sampleOf s x .answer ≡ 0) where
   above-2 : isAbove (t s x w) 2 ≡ isHotter s x 2
-  above-2 = above-n s x w 2 two-one (in-range-2 s x a) (lit< tt) (lit< tt) refl refl refl refl
+  above-2 = above-n s x w b 2 two-one (in-range-2 s x a) (lit< tt) (lit< tt) refl refl refl refl
 
   below-2 : isBelow (t s x w) 2 ≡ isColder s x 2
-  below-2 = below-n s x w 2 two-one (in-range-2 s x a) (lit< tt) (lit< tt) refl refl refl refl
+  below-2 = below-n s x w b 2 two-one (in-range-2 s x a) (lit< tt) (lit< tt) refl refl refl refl
 
   above-3 : isAbove (t s x w) 3 ≡ isHotter s x 3
-  above-3 = above-n s x w 3 three-one (in-range-3 s x a) (lit< tt) (lit< tt) refl refl refl refl
+  above-3 = above-n s x w b 3 three-one (in-range-3 s x a) (lit< tt) (lit< tt) refl refl refl refl
 
   below-3 : isBelow (t s x w) 3 ≡ isColder s x 3
-  below-3 = below-n s x w 3 three-one (in-range-3 s x a) (lit< tt) (lit< tt) refl refl refl refl
+  below-3 = below-n s x w b 3 three-one (in-range-3 s x a) (lit< tt) (lit< tt) refl refl refl refl
 
   -- ---- both bytes, over any flag of a source that the sources of a rail and a fan share
   module _ (f g : Source → Bool) (rails : (i : ℕ) → isOutside (t s x w) i ≡ isBeside s x i → f (rail i) ≡ g (rail i))
@@ -240,22 +242,22 @@ module _ (s : State) (x : Sample) (w : Whole s) (a : sampleOf s x .answer ≡ 0)
 
   module _ (fits : Fits x) where
     real-first : map (condition (t s x w)) firstByte ≡ map (holdsFor s x) firstByte
-    real-first = first-same (condition (t s x w)) (holdsFor s x) (λ i e. e) (λ n e. e) (above-1 s x w fits) above-2 above-3 refl
+    real-first = first-same (condition (t s x w)) (holdsFor s x) (λ i e. e) (λ n e. e) (above-1 s x w b fits) above-2 above-3 refl
 
     real-second : map (condition (t s x w)) secondByte ≡ map (holdsFor s x) secondByte
-    real-second = second-same (condition (t s x w)) (holdsFor s x) (λ i e. e) (λ n e. e) (above-1 s x w fits) above-2 above-3 refl
+    real-second = second-same (condition (t s x w)) (holdsFor s x) (λ i e. e) (λ n e. e) (above-1 s x w b fits) above-2 above-3 refl
 
     pub real-time : RealTime s x
     real-time =
         record {
-          first = λ j. real-bit j .0 ∙ ap (λ (bs : List Bool). flagOf (getD bs j false)) real-first;
-          second = λ j. real-bit j .1 ∙ ap (λ (bs : List Bool). flagOf (getD bs j false)) real-second;
+          first = λ j. real-bit s x w a j .0 ∙ ap (λ (bs : List Bool). flagOf (getD bs j false)) real-first;
+          second = λ j. real-bit s x w a j .1 ∙ ap (λ (bs : List Bool). flagOf (getD bs j false)) real-second;
         }
 
     -- ---- the steps
     status-1 : statusAt (t s x w) (s .latches) 1 ≡ statusFor s x 1
     unfolding statusAt statusFor
-    status-1 = rw (status-mode s x w 1, above-1 s x w fits, below-1 s x w fits)
+    status-1 = rw (status-mode s x w 1, above-1 s x w b fits, below-1 s x w b fits)
 
   status-2 : statusAt (t s x w) (s .latches) 2 ≡ statusFor s x 2
   unfolding statusAt statusFor
@@ -287,8 +289,8 @@ module _ (s : State) (x : Sample) (w : Whole s) (a : sampleOf s x .answer ≡ 0)
     pub status-or : StatusOr s x
     status-or =
         record {
-          first = λ j. latched-bit j .0 ∙ ap (λ (bs : List Bool). max (bit (cellIn s interruptStatus1) j) (flagOf (getD bs j false))) latched-first;
-          second = λ j. latched-bit j .1 ∙ ap (λ (bs : List Bool). max (bit (cellIn s interruptStatus2) j) (flagOf (getD bs j false))) latched-second;
+          first = λ j. latched-bit s x w a j .0 ∙ ap (λ (bs : List Bool). max (bit (cellIn s interruptStatus1) j) (flagOf (getD bs j false))) latched-first;
+          second = λ j. latched-bit s x w a j .1 ∙ ap (λ (bs : List Bool). max (bit (cellIn s interruptStatus2) j) (flagOf (getD bs j false))) latched-second;
         }
 
     -- ---- the latches

@@ -14,11 +14,11 @@ sample-claims s x w =
     record {
       refused = refused s x;
       frame = frame s x;
-      stores = stores s x w;
-      fanRings = fan-rings s x w;
-      realTime = real-time s x w;
-      statusOr = status-or s x w;
-      latchesAfter = latches-after s x w;
+      stores = stores s x (w .count);
+      fanRings = fan-rings s x (w .count);
+      realTime = real-time s x (w .count) (w .bytes);
+      statusOr = status-or s x (w .count) (w .bytes);
+      latchesAfter = latches-after s x (w .count) (w .bytes);
       smiExactly = smi-exactly s w;
       standby = standby s w;
       storedOnly = λ t v a. stored-only s t x w v a;

@@ -1,13 +1,26 @@
 -- A plan in force over a list of calls, for any machine (document 01, "Planning a fan alarm").
 -- It is computed from the calls and their answers alone, never from the state.
 use mathlib.Core.Path.{_≡_}
-use mathlib.Core.Bool.{Bool, false}
+use mathlib.Core.Bool.{Bool, false, not, _&&_, _||_}
 use mathlib.Core.List.{List, [], _∷_}
 use mathlib.Core.Logic.{_≢_}
 use Prim.Native.Nat.{ℕ}
+use lib.Bits.{bitAnd}
 use lib.Dec.{eqb}
-use Rattle.bits.specs.Bits.{choose}
+use Rattle.bits.specs.Bits.{choose, Change}
 
+-- ---- a rewrite, of the bits that setting a plan gave
+
+-- a byte that gives one of them another value
+abbrev pub differs : Change → ℕ → Bool
+differs c v = not (eqb (bitAnd v (c .mask)) (bitAnd (c .byte) (c .mask)))
+
+-- "A rewrite is an accepted write whose byte gives a bit of that fan's limit or divisor another value than the plan's.": to cell k
+abbrev pub rewrites : List Change → ℕ → ℕ → Bool
+rewrites [] k v = false
+rewrites (c ∷ cs) k v = (eqb k (c .cell) && differs c v) || rewrites cs k v
+
+-- ---- "A plan is in force on its fan from the call that sets it, answered 0, until .."
 pub data Force (P : Type 0) : Type 0 where
   none : Force P
   plan : P → Force P

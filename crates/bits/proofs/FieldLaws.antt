@@ -23,11 +23,11 @@ use Rattle.bits.proofs.Every.{every, every-at, every-at2, same-below, l
 use Rattle.bits.proofs.BitLaws.{merge-kept, merge-given, bit-placed, bit-off, bit-lt, bit-none, low-digit, shifted, number-lt, bool-same, one-if}
 
 -- ---- tests on two parts
-or-left : (a b : Bool) → (a || b) ≡ false → a ≡ false
+pub or-left : (a b : Bool) → (a || b) ≡ false → a ≡ false
 or-left true b e = e
 or-left false b e = refl
 
-or-right : (a b : Bool) → (a || b) ≡ false → b ≡ false
+pub or-right : (a b : Bool) → (a || b) ≡ false → b ≡ false
 or-right true b e = absurd (true≢false e)
 or-right false b e = e
 
@@ -81,7 +81,7 @@ unfolding bit
 pow-bit a j ha hj =
     bool-same _ _ (same-below2 8 8 (λ a j. one-if (isOn (2 ^ a) j)) (λ a j. one-if (eqb j a)) tt a j ha hj)
 
-pow-has : (a : ℕ) → a < 8 → bit (2 ^ a) a ≡ 1
+pub pow-has : (a : ℕ) → a < 8 → bit (2 ^ a) a ≡ 1
 unfolding bit
 pow-has = same-below 8 (λ a. bit (2 ^ a) a) (λ a. 1) tt
 

@@ -1,1 +1,5 @@
 pub mod Faces
+pub mod Settings
+pub mod Standing
+pub mod Ringing
+pub mod Alarm

@@ -9,6 +9,7 @@ use Rattle.event.specs.declared.Event.{Event}
 use Rattle.event.specs.declared.Sample.{Sample}
 use Rattle.w83782d_sample.specs.Sample as Rule
 use Rattle.w83782d_replay.specs.Replay as Replay
+use Rattle.w83782d_plan.specs.Plan as Plan
 use Rattle.w83782d_bus.specs.Bus as Bus
 use Rattle.w83782d_bus.specs.Bus.{State, Written, Read, powerOn, openedLatches}
 use Rattle.w83782d.specs.declared.Monitor.{Monitor}
@@ -42,6 +43,10 @@ openedOf m = record { monitor = record { registers = m .registers; latches = ope
 
 abbrev pub sampleOf : Monitor → Sample → Answered
 sampleOf m x = answered (Rule.sampleOf (stateOf m) x)
+
+-- "Setting it writes that fan's limit and three divisor bits, and nothing else"
+abbrev pub setPlanOf : Monitor → ℕ → ℕ → Answered
+setPlanOf m f w = answered (Plan.setPlanOf (stateOf m) f w)
 
 -- "Four events: bus write, bus read, sample, chassis opened": any of them
 abbrev pub applyOf : Monitor → Event → Shown

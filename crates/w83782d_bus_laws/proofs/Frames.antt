@@ -32,7 +32,7 @@ small : ℕ → Bool
 unfolding writableAt rows
 small c = ltb (storedBits c) 256
 
-stored-byte : (c : ℕ) → c < cells → storedBits c < 256
+pub stored-byte : (c : ℕ) → c < cells → storedBits c < 256
 unfolding small
 stored-byte c h = ltb→lt (storedBits c) 256 (every-at small cells tt c h)
 
@@ -153,7 +153,7 @@ reset-at : (rs : List ℕ) (c : ℕ) → c < cells → getD (resetRegisters rs) 
 unfolding resetRegisters
 reset-at rs c h = tabulate-at cells (λ c. choose (keptAt c) (getD rs c 0) (powerOnAt c)) c h
 
-reset-count : (rs : List ℕ) → length (resetRegisters rs) ≡ cells
+pub reset-count : (rs : List ℕ) → length (resetRegisters rs) ≡ cells
 unfolding resetRegisters
 reset-count rs = tabulate-length cells 0 (λ c. choose (keptAt c) (getD rs c 0) (powerOnAt c))
 

@@ -1,0 +1,195 @@
+-- The claim of specs/Alarm over every list of calls: crate `alarm` has it from what each call keeps and sets.
+-- Assumes nothing.
+use mathlib.Core.Path.{_≡_, refl, sym, ap, subst, _∙_}
+use mathlib.Core.Bool.{Bool, true, false, _||_}
+use mathlib.Core.List.{List}
+use mathlib.Core.Logic.{_≢_}
+use Prim.Native.Nat.{ℕ, _*_, _<_, _≤_}
+use native.Mathlib.Decide.{ℕ-discrete}
+use native.Mathlib.Omega.{arith}
+use borrow.Author.Tests.{eq-eqb, ne-eqb, le-ltb, eqb-true, eqb-false, ltb-false}
+use lib.Dec.{eqb, ltb}
+use lib.ListN.{length, getD}
+use Rattle.bits.specs.Bits.{choose, bit, changes}
+use Rattle.bits.proofs.BitLaws.{choose-ind}
+use Rattle.bits.proofs.FieldLaws.{or-left, or-right}
+use Rattle.fan.specs.Count.{perMinute, exponentOf, valueOf, fromBits}
+use Rattle.fan.specs.Divisors.{divisorAt}
+use Rattle.fan.specs.Plan.{IsPlan, IsPlanned, answerFor, planAnswer}
+use Rattle.fan.specs.Search.{planOf}
+use Rattle.fan.specs.declared.Divisor.{Divisor}
+use Rattle.fan.specs.declared.Planned.{Planned}
+use Rattle.fan.specs.declared.Planned.the-variants.{Plan, Refused}
+use Rattle.fan.proofs.Divisors.{from-exponent, value-is}
+use Rattle.fan.proofs.Planning.{plan-of-is, plans-hold}
+use Rattle.alarm.specs.Alarm.{Force, none, plan, Laws, Everywhere}
+use Rattle.alarm.specs.Alarm as alarm
+use Rattle.alarm.proofs.Lists.{lists}
+use Rattle.event.specs.declared.Sample.{Sample}
+use Rattle.w83782d_bus.specs.Map.{cells}
+use Rattle.w83782d_bus.specs.Bus.{Written, written, state}
+use Rattle.w83782d_bus_laws.proofs.Reached as reached
+use Rattle.w83782d_sample.specs.Sample.{fanCount, fanLimit, divisorPlaces, divisorOf}
+use Rattle.w83782d_sample_laws.specs.Claims.{fanCell, fanBit}
+use Rattle.w83782d_sample_laws.proofs.Stores.{frame, refused-state}
+use Rattle.w83782d_plan.specs.Plan as Setting
+use Rattle.w83782d_plan.specs.Plan.{settings, plannedRegisters, isNoFan}
+use Rattle.w83782d.specs.declared.Monitor.{Monitor}
+use Rattle.w83782d.specs.Monitor.{stateOf, monitorOf, setPlanOf, sampleOf}
+use Rattle.w83782d.specs.Alarm.{Call, write, read, sample, chassis, setPlan, answerTo, Set, setFor, watched, Whole, SetsPlan, Said, AlarmRings}
+use Rattle.w83782d.proofs.Settings.{put, put-length, put-other, put-keeps, put-limit, put-bits, other-limit, other-bits}
+use Rattle.w83782d.proofs.Standing.{Stands, SameCells, same-stands, read-cells, read-whole, sample-cells, write-whole, write-stands}
+use Rattle.w83782d.proofs.Ringing.{real-time, plan-rings, rings-where, rings-only}
+
+-- ---- setting a plan: refused, or the settings put
+plan-view : (P : Written → Type 0) (m : Monitor) (g w : ℕ) → ((a : ℕ) → a ≢ 0 → P (written (stateOf m) a))
+    → ((d : Divisor) (l : ℕ) → 1 ≤ g → g ≤ 3 → planOf w ≡ Plan d l → P (written (state (put (m .registers) g d l) (m .latches)) 0))
+    → P (Setting.setPlanOf (stateOf m) g w)
+unfolding Setting.setPlanOf
+plan-view P m g w refused set =
+    choose-ind P (isNoFan g) _ _ (λ _. refused 7 (λ e. omega arith))
+    (λ n. by (planOf w) refl (fan-from n) (fan-to n))
+  where
+    fan-from : isNoFan g ≡ false → 1 ≤ g
+    fan-from n = ltb-false g 1 (or-left (ltb g 1) (ltb 3 g) n)
+    fan-to : isNoFan g ≡ false → g ≤ 3
+    fan-to n = ltb-false 3 g (or-right (ltb g 1) (ltb 3 g) n)
+    by : (p : Planned) → planOf w ≡ p → 1 ≤ g → g ≤ 3 → P (written (state (plannedRegisters (m .registers) g p) (m .latches)) (planAnswer p))
+    by (Plan d l) e h k = set d l h k e
+    by Refused e h k = refused 6 (λ z. omega arith)
+
+-- ---- a plan in force or none
+Nothing : Force Set → Type 0
+Nothing none = Unit {0}
+Nothing (plan p) = ⊥
+
+other : Set → Force Set → Set
+other q none = q
+other q (plan p) = p
+
+is-plan : (w : ℕ) (d : Divisor) (l : ℕ) → planOf w ≡ Plan d l → IsPlan w (valueOf d) l
+is-plan w d l e = subst (IsPlanned w) e (plan-of-is w) .plan refl
+
+module _ (f : ℕ) (h : 1 ≤ f) (h′ : f ≤ 3) where
+  abbrev Stood : Monitor → Set → Type 0
+  Stood m p = Stands f (m .registers) p
+
+  -- ---- what each call leaves
+  fit : (m : Monitor) (c : Call) → Whole m → Whole (answerTo m c .monitor)
+  fit m (write i v) k = write-whole (stateOf m) i v k
+  fit m (read i) k = read-whole (stateOf m) i ∙ k
+  fit m (sample x) k = frame (stateOf m) x .count ∙ k
+  fit m chassis k = k
+  fit m (setPlan g w) k =
+      plan-view (λ (x : Written). length (x .state .registers) ≡ cells) m g w (λ _ _. k) (λ d l _ _ _. put-length (m .registers) g d l ∙ k)
+
+  refused : (m : Monitor) (c : Call) → answerTo m c .answer ≢ 0 → answerTo m c .monitor ≡ m
+  refused m (write i v) n = ap monitorOf (reached.refused (stateOf m) i v .write n)
+  refused m (read i) n = ap monitorOf (reached.refused (stateOf m) i 0 .read n)
+  refused m (sample x) n = ap monitorOf (refused-state (stateOf m) x n)
+  refused m chassis n = absurd (n refl)
+  refused m (setPlan g w) n =
+      plan-view (λ (x : Written). x .answer ≢ 0 → monitorOf (x .state) ≡ m) m g w (λ _ _ _. refl) (λ d l _ _ _ z. absurd (z refl)) n
+
+  -- the plan that was put
+  put-stands : (m : Monitor) (w : ℕ) (d : Divisor) (l : ℕ) → Whole m → planOf w ≡ Plan d l → Stands f (put (m .registers) f d l) (record { speed = w; divisor = d; limit = l })
+  put-stands m w d l k e =
+      record {
+        limit = put-limit (m .registers) f d l k h′ (omega (arith, is-plan w d l e .limit));
+        bits = put-bits (m .registers) f d l k h′;
+        isPlan = is-plan w d l e;
+      }
+
+  set : (m : Monitor) (c : Call) (p : Set) → Whole m → answerTo m c .answer ≡ 0 → watched f .sets c ≡ plan p → Stood (answerTo m c .monitor) p
+  unfolding Nothing other
+  set m (write i v) p k a e = absurd (subst Nothing e tt)
+  set m (read i) p k a e = absurd (subst Nothing e tt)
+  set m (sample x) p k a e = absurd (subst Nothing e tt)
+  set m chassis p k a e = absurd (subst Nothing e tt)
+  set m (setPlan g w) p k a e =
+      plan-view (λ (x : Written). x .answer ≡ 0 → Stands f (x .state .registers) p) m g w (λ b n z. absurd (n z)) (λ d l _ _ q _. go d l q (ℕ-discrete g f)) a
+    where
+      go : (d : Divisor) (l : ℕ) → planOf w ≡ Plan d l → Dec (g ≡ f) → Stands f (put (m .registers) g d l) p
+      go d l q (no n) = absurd (subst Nothing (simp (ne-eqb g f n) at e) tt)
+      go d l q (yes y) =
+          let s : plan (record { speed = w; divisor = d; limit = l }) ≡ plan p = simp (eq-eqb g f y, q) at e in
+          rw y (subst (Stands f (put (m .registers) f d l)) (ap (other (record { speed = w; divisor = d; limit = l })) s) (put-stands m w d l k q))
+
+  kept : (m : Monitor) (c : Call) (p : Set) → Whole m → Stood m p → answerTo m c .answer ≡ 0 → watched f .sets c ≡ none → watched f .ends p c ≡ false → Stood (answerTo m c .monitor) p
+  unfolding Nothing
+  kept m (write i v) p k s a n e = write-stands f (stateOf m) i v p h′ s e
+  kept m (read i) p k s a n e = same-stands f (m .registers) _ p h′ (read-cells (stateOf m) i) s
+  kept m (sample x) p k s a n e = same-stands f (m .registers) _ p h′ (sample-cells (stateOf m) x) s
+  kept m chassis p k s a n e = s
+  kept m (setPlan g w) p k s a n e =
+      plan-view (λ (x : Written). Stands f (x .state .registers) p) m g w (λ _ _. s) (λ d l i j q. go d l i j q (ℕ-discrete g f))
+    where
+      go : (d : Divisor) (l : ℕ) → 1 ≤ g → g ≤ 3 → planOf w ≡ Plan d l → Dec (g ≡ f) → Stands f (put (m .registers) g d l) p
+      go d l i j q (yes y) = absurd (subst Nothing (sym (simp (eq-eqb g f y, q) at n)) tt)
+      go d l i j q (no y) =
+          record {
+            limit = other-limit (m .registers) g d l k j f h′ (λ z. y (sym z)) ∙ s .limit;
+            bits = other-bits (m .registers) g d l k j f i h h′ y ∙ s .bits;
+            isPlan = s .isPlan;
+          }
+
+  laws : Laws (watched f) Whole Stood
+  laws = record { fit = fit; refused = refused; set = set; kept = kept }
+
+  -- ---- what is said of one call
+  module _ (m : Monitor) (k : Whole m) (w : ℕ) where
+    set-is : (d : Divisor) (l : ℕ) → planOf w ≡ Plan d l → Setting.setPlanOf (stateOf m) f w ≡ written (state (put (m .registers) f d l) (m .latches)) 0
+    unfolding Setting.setPlanOf
+    set-is d l e = simp (le-ltb f 1 h, le-ltb 3 f h′, e)
+
+    waits : (d : Divisor) (l g : ℕ) → getD (put (m .registers) f d l) (fanCell g) 0 ≡ getD (m .registers) (fanCell g) 0
+    waits d l g =
+        choose-ind (λ (c : ℕ). getD (put (m .registers) f d l) c 0 ≡ getD (m .registers) c 0) (eqb g 3) _ _
+        (λ _. put-other (m .registers) f d l _ (λ e. omega arith) (λ e. omega arith) (λ e. omega arith) (λ e. omega arith))
+        (λ _. put-other (m .registers) f d l _ (λ e. omega arith) (λ e. omega arith) (λ e. omega arith) (λ e. omega arith))
+
+    sets-plan : (d : Divisor) (l : ℕ) → planOf w ≡ Plan d l → SetsPlan f m w
+    unfolding divisorAt
+    sets-plan d l e =
+        let p = is-plan w d l e in
+        let small : l < 256 = omega (arith, is-plan w d l e .limit) in
+        let after = put (m .registers) f d l in
+        record {
+          answer = rw (set-is d l e);
+          divisor = d;
+          limit = l;
+          planned = e;
+          isPlan = p;
+          divisorSet = rw (set-is d l e) (ap fromBits (put-bits (m .registers) f d l k h′) ∙ from-exponent d);
+          limitSet = rw (set-is d l e) (put-limit (m .registers) f d l k h′ small);
+          kept = λ c j hj n i. rw (set-is d l e) (put-keeps (m .registers) f d l c j hj n i);
+          latches = rw (set-is d l e);
+          counts = λ g hg. rw (set-is d l e) (put-other (m .registers) f d l (fanCount g) (λ z. omega arith) (λ z. omega arith) (λ z. omega arith) (λ z. omega arith));
+          realTime = λ g.
+              rw (set-is d l e)
+              (real-time (record { registers = after; latches = m .latches }) (put-length (m .registers) f d l ∙ k) g ∙ ap (λ (b : ℕ). bit b (fanBit g)) (waits d l g) ∙ sym (real-time m k g));
+          least = λ c n hn all a b hb r.
+              rings-where f h h′ c n (omega arith) a b
+              (plans-hold .least w (valueOf d) l p (valueOf c) n (value-is c) hn (λ i j hj hi. rings-only f h h′ c n (omega arith) i j (all i j hj hi)) a b hb (rings-only f h h′ d l small a b r));
+        }
+
+    -- a speed of 1 to 1,350,000 has a plan
+    asked : 1 ≤ w → w ≤ perMinute → SetsPlan f m w
+    asked i j = go (planOf w) refl
+      where
+        fine : answerFor w ≡ 0
+        fine = simp (ne-eqb w 0 (λ z. omega arith), le-ltb perMinute w j)
+        go : (p : Planned) → planOf w ≡ p → SetsPlan f m w
+        go (Plan d l) e = sets-plan d l e
+        go Refused e = let z : _≡_ {A = ℕ} 6 0 = sym (ap planAnswer e) ∙ plan-of-is w .answer ∙ fine in absurd (omega arith)
+
+  said : (m : Monitor) (p : Force Set) (c : Call) → Whole m → alarm.Stands Stood m p → Said f m p c
+  said m p (setPlan g w) k s = λ e i j. asked m k w i j
+  said m none (sample x) k s = tt
+  said m (plan p) (sample x) k s = λ a. plan-rings f h h′ m k x p s a
+  said m p (write i v) k s = tt
+  said m p (read i) k s = tt
+  said m p chassis k s = tt
+
+pub alarm-rings : AlarmRings
+alarm-rings f h h′ m k cs = lists Monitor Call Set (watched f) Whole (Stood f h h′) (Said f) (laws f h h′) (said f h h′) m k cs

@@ -52,8 +52,10 @@ plan-view P m g w refused set =
   where
     fan-from : isNoFan g ≡ false → 1 ≤ g
     fan-from n = ltb-false g 1 (or-left (ltb g 1) (ltb 3 g) n)
+
     fan-to : isNoFan g ≡ false → g ≤ 3
     fan-to n = ltb-false 3 g (or-right (ltb g 1) (ltb 3 g) n)
+
     by : (p : Planned) → planOf w ≡ p → 1 ≤ g → g ≤ 3 → P (written (state (plannedRegisters (m .registers) g p) (m .latches)) (planAnswer p))
     by (Plan d l) e h k = set d l h k e
     by Refused e h k = refused 6 (λ z. omega arith)
@@ -179,6 +181,7 @@ module _ (f : ℕ) (h : 1 ≤ f) (h′ : f ≤ 3) where
       where
         fine : answerFor w ≡ 0
         fine = simp (ne-eqb w 0 (λ z. omega arith), le-ltb perMinute w j)
+
         go : (p : Planned) → planOf w ≡ p → SetsPlan f m w
         go (Plan d l) e = sets-plan d l e
         go Refused e = let z : _≡_ {A = ℕ} 6 0 = sym (ap planAnswer e) ∙ plan-of-is w .answer ∙ fine in absurd (omega arith)

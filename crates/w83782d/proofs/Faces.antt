@@ -17,10 +17,11 @@ use Rattle.event.specs.declared.Event.{Event}
 use Rattle.event.specs.declared.Sample.{Sample}
 use Rattle.w83782d_replay.specs.Replay as Replay
 use Rattle.w83782d_sample.specs.Sample as Rule
+use Rattle.w83782d_plan.specs.Plan as Plan
 use Rattle.w83782d.specs.declared.Monitor.{Monitor}
 use Rattle.w83782d.specs.declared.Answered.{Answered}
 use Rattle.w83782d.specs.declared.Shown.{Shown}
-use Rattle.w83782d.specs.Monitor.{stateOf, monitorOf, answered, shown, powerOnOf, writeOf, readOf, sampleOf, applyOf, ovtOf}
+use Rattle.w83782d.specs.Monitor.{stateOf, monitorOf, answered, shown, powerOnOf, writeOf, readOf, sampleOf, setPlanOf, applyOf, ovtOf}
 
 abbrev pub monitor : List ℕ → Latches → Monitor
 monitor rs l = record { registers = rs; latches = l }
@@ -50,6 +51,13 @@ pub sample-face : (m : Monitor) (ts : List ℕ) (w : Wrote) (x : Sample) → len
 sample-face m ts w x h e =
     let f : wroteIn ts w ≡ Rule.sampleOf (stateOf m) x = rw (eq-eqb (length (m .registers)) cells h) at e in
     ap answered f
+
+pub plan-face : (m : Monitor) (ts : List ℕ) (w : Wrote) (f n : ℕ) → length (m .registers) ≡ cells
+    → wroteIn ts w ≡ sized (m .registers) (m .latches) (Plan.setPlanOf (stateOf m) f n)
+    → record { monitor = monitor ts (w .latches); answer = w .answer } ≡ setPlanOf m f n
+plan-face m ts w f n h e =
+    let g : wroteIn ts w ≡ Plan.setPlanOf (stateOf m) f n = rw (eq-eqb (length (m .registers)) cells h) at e in
+    ap answered g
 
 pub apply-face : (m : Monitor) (ts : List ℕ) (r : Seen) (e : Event) → length (m .registers) ≡ cells
     → seenIn ts r ≡ sizedRead (m .registers) (m .latches) (Replay.applyOf (stateOf m) (e .kind) (e .sample))

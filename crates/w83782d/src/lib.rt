@@ -5,7 +5,8 @@ ghost use Rattle.w83782d_bus_laws.specs.Claims.{WriteClaims, ReadClaims, Opened
 ghost use Rattle.w83782d_sample_laws.specs.Claims.{SampleClaims};
 ghost use Rattle.w83782d_readings.specs.Outputs.{smiOf, standingAlarms};
 ghost use Rattle.w83782d_readings.specs.Readings.{voltageOf, speedOf, temperatureOf, dutyOf};
-ghost use Rattle.w83782d.specs.Monitor.{stateOf, powerOnOf, writeOf, readOf, sampleOf, openedOf, applyOf, ovtOf};
+ghost use Rattle.w83782d.specs.Monitor.{stateOf, powerOnOf, writeOf, readOf, sampleOf, openedOf, setPlanOf, applyOf, ovtOf};
+ghost use Rattle.w83782d.specs.Alarm.{AlarmRings};
 use analog::Reading;
 use event::Event;
 use event::Sample;
@@ -14,6 +15,7 @@ use w83782d_bus::Latches;
 use w83782d_bus::power_on_in;
 use w83782d_bus::read_in;
 use w83782d_bus::write_in;
+use w83782d_plan::set_plan_in;
 use w83782d_readings::Duty;
 use w83782d_readings::Temperature;
 use w83782d_replay::apply_in;
@@ -113,6 +115,26 @@ impl Monitor {
         let mut registers = self.registers;
         let latches = self.latches;
         let done = sample_in(&mut registers, latches, x);
+        let after = done.latches;
+        self = Monitor {
+            registers,
+            latches: after,
+        };
+        Answered {
+            monitor: self,
+            answer: done.answer,
+        }
+    }
+
+    // An alarm for a fan, 1 to 3, at a speed of 1 to 1,350,000 turns a minute: answered 0, or 7 or 6 with the monitor as it was.
+    // What it promises over every list of calls that follow, or come before, is `AlarmRings`.
+    pub fn set_plan(mut self, fan: u8, rpm: u32) -> Answered
+        ensures equation { λ r. ⌜ r ≡ setPlanOf self fan rpm ⌝ }
+        ensures claim { λ r. ⌜ AlarmRings ⌝ }
+    {
+        let mut registers = self.registers;
+        let latches = self.latches;
+        let done = set_plan_in(&mut registers, latches, fan, rpm);
         let after = done.latches;
         self = Monitor {
             registers,

@@ -1,0 +1,17 @@
+use borrow.Author.Needs.{needs}
+use Rattle.w83782d.proofs.Alarm.{alarm-rings}
+use Rattle.w83782d.proofs.Faces.{plan-face}
+use Rattle.w83782d.proofs.Monitor.set_plan.Statement.{statement}
+use Rattle.w83782d.proofs.Monitor.set_plan.Tie as tie
+
+slice-aggregate-set-plan-in : tie.Need-slice-aggregate-set-plan-in
+slice-aggregate-set-plan-in c = search needs
+
+set-plan-in-requires : tie.Need-set-plan-in-requires
+set-plan-in-requires c κs = search needs
+
+returns : tie.Need-returns
+returns c = (search (needs, plan-face), alarm-rings)
+
+pub set-plan-spec : {M : Type 1} → statement M
+set-plan-spec = tie.close (tie.spec slice-aggregate-set-plan-in set-plan-in-requires returns)

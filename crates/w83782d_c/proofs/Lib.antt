@@ -1,3 +1,2 @@
-pub mod Images
+pub mod Calls
 pub mod Packed
-pub mod Runs

@@ -33,32 +33,13 @@ use Rattle.w83782d_sample.specs.Sample.{fanCount, fanLimit, divisorPlaces, divi
 use Rattle.w83782d_sample_laws.specs.Claims.{fanCell, fanBit}
 use Rattle.w83782d_sample_laws.proofs.Stores.{frame, refused-state}
 use Rattle.w83782d_plan.specs.Plan as Setting
-use Rattle.w83782d_plan.specs.Plan.{settings, plannedRegisters, isNoFan}
+use Rattle.w83782d_plan.proofs.Cases.{set-view, refused-plan}
 use Rattle.w83782d.specs.declared.Monitor.{Monitor}
 use Rattle.w83782d.specs.Monitor.{stateOf, monitorOf, setPlanOf, sampleOf}
 use Rattle.w83782d.specs.Alarm.{Call, write, read, sample, chassis, setPlan, answerTo, Set, setFor, watched, Whole, SetsPlan, Said, AlarmRings}
 use Rattle.w83782d.proofs.Settings.{put, put-length, put-other, put-keeps, put-limit, put-bits, other-limit, other-bits}
 use Rattle.w83782d.proofs.Standing.{Stands, SameCells, same-stands, read-cells, read-whole, sample-cells, write-whole, write-stands}
 use Rattle.w83782d.proofs.Ringing.{real-time, plan-rings, rings-where, rings-only}
-
--- ---- setting a plan: refused, or the settings put
-plan-view : (P : Written → Type 0) (m : Monitor) (g w : ℕ) → ((a : ℕ) → a ≢ 0 → P (written (stateOf m) a))
-    → ((d : Divisor) (l : ℕ) → 1 ≤ g → g ≤ 3 → planOf w ≡ Plan d l → P (written (state (put (m .registers) g d l) (m .latches)) 0))
-    → P (Setting.setPlanOf (stateOf m) g w)
-unfolding Setting.setPlanOf
-plan-view P m g w refused set =
-    choose-ind P (isNoFan g) _ _ (λ _. refused 7 (λ e. omega arith))
-    (λ n. by (planOf w) refl (fan-from n) (fan-to n))
-  where
-    fan-from : isNoFan g ≡ false → 1 ≤ g
-    fan-from n = ltb-false g 1 (or-left (ltb g 1) (ltb 3 g) n)
-
-    fan-to : isNoFan g ≡ false → g ≤ 3
-    fan-to n = ltb-false 3 g (or-right (ltb g 1) (ltb 3 g) n)
-
-    by : (p : Planned) → planOf w ≡ p → 1 ≤ g → g ≤ 3 → P (written (state (plannedRegisters (m .registers) g p) (m .latches)) (planAnswer p))
-    by (Plan d l) e h k = set d l h k e
-    by Refused e h k = refused 6 (λ z. omega arith)
 
 -- ---- a plan in force or none
 Nothing : Force Set → Type 0
@@ -83,15 +64,14 @@ module _ (f : ℕ) (h : 1 ≤ f) (h′ : f ≤ 3) where
   fit m (sample x) k = frame (stateOf m) x .count ∙ k
   fit m chassis k = k
   fit m (setPlan g w) k =
-      plan-view (λ (x : Written). length (x .state .registers) ≡ cells) m g w (λ _ _. k) (λ d l _ _ _. put-length (m .registers) g d l ∙ k)
+      set-view (λ (x : Written). length (x .state .registers) ≡ cells) (stateOf m) g w (λ _ _. k) (λ d l _ _ _. put-length (m .registers) g d l ∙ k)
 
   refused : (m : Monitor) (c : Call) → answerTo m c .answer ≢ 0 → answerTo m c .monitor ≡ m
   refused m (write i v) n = ap monitorOf (reached.refused (stateOf m) i v .write n)
   refused m (read i) n = ap monitorOf (reached.refused (stateOf m) i 0 .read n)
   refused m (sample x) n = ap monitorOf (refused-state (stateOf m) x n)
   refused m chassis n = absurd (n refl)
-  refused m (setPlan g w) n =
-      plan-view (λ (x : Written). x .answer ≢ 0 → monitorOf (x .state) ≡ m) m g w (λ _ _ _. refl) (λ d l _ _ _ z. absurd (z refl)) n
+  refused m (setPlan g w) n = ap monitorOf (refused-plan (stateOf m) g w n)
 
   -- the plan that was put
   put-stands : (m : Monitor) (w : ℕ) (d : Divisor) (l : ℕ) → Whole m → planOf w ≡ Plan d l → Stands f (put (m .registers) f d l) (record { speed = w; divisor = d; limit = l })
@@ -109,7 +89,7 @@ module _ (f : ℕ) (h : 1 ≤ f) (h′ : f ≤ 3) where
   set m (sample x) p k a e = absurd (subst Nothing e tt)
   set m chassis p k a e = absurd (subst Nothing e tt)
   set m (setPlan g w) p k a e =
-      plan-view (λ (x : Written). x .answer ≡ 0 → Stands f (x .state .registers) p) m g w (λ b n z. absurd (n z)) (λ d l _ _ q _. go d l q (ℕ-discrete g f)) a
+      set-view (λ (x : Written). x .answer ≡ 0 → Stands f (x .state .registers) p) (stateOf m) g w (λ b n z. absurd (n z)) (λ d l _ _ q _. go d l q (ℕ-discrete g f)) a
     where
       go : (d : Divisor) (l : ℕ) → planOf w ≡ Plan d l → Dec (g ≡ f) → Stands f (put (m .registers) g d l) p
       go d l q (no n) = absurd (subst Nothing (simp (ne-eqb g f n) at e) tt)
@@ -124,7 +104,7 @@ module _ (f : ℕ) (h : 1 ≤ f) (h′ : f ≤ 3) where
   kept m (sample x) p k s a n e = same-stands f (m .registers) _ p h′ (sample-cells (stateOf m) x) s
   kept m chassis p k s a n e = s
   kept m (setPlan g w) p k s a n e =
-      plan-view (λ (x : Written). Stands f (x .state .registers) p) m g w (λ _ _. s) (λ d l i j q. go d l i j q (ℕ-discrete g f))
+      set-view (λ (x : Written). Stands f (x .state .registers) p) (stateOf m) g w (λ _ _. s) (λ d l i j q. go d l i j q (ℕ-discrete g f))
     where
       go : (d : Divisor) (l : ℕ) → 1 ≤ g → g ≤ 3 → planOf w ≡ Plan d l → Dec (g ≡ f) → Stands f (put (m .registers) g d l) p
       go d l i j q (yes y) = absurd (subst Nothing (sym (simp (eq-eqb g f y, q) at n)) tt)

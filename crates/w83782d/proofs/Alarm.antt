@@ -34,12 +34,13 @@ use Rattle.w83782d_sample_laws.specs.Claims.{fanCell, fanBit}
 use Rattle.w83782d_sample_laws.proofs.Stores.{frame, refused-state}
 use Rattle.w83782d_plan.specs.Plan as Setting
 use Rattle.w83782d_plan.proofs.Cases.{set-view, refused-plan}
+use Rattle.w83782d_plan.proofs.Settings.{put, put-length, put-limit, put-bits, other-limit, other-bits}
+use Rattle.w83782d_plan.proofs.Proved.{is-plan, plan-claims}
 use Rattle.w83782d.specs.declared.Monitor.{Monitor}
 use Rattle.w83782d.specs.Monitor.{stateOf, monitorOf, setPlanOf, sampleOf}
 use Rattle.w83782d.specs.Alarm.{Call, write, read, sample, chassis, setPlan, answerTo, Set, setFor, watched, Whole, SetsPlan, Said, AlarmRings}
-use Rattle.w83782d.proofs.Settings.{put, put-length, put-other, put-keeps, put-limit, put-bits, other-limit, other-bits}
 use Rattle.w83782d.proofs.Standing.{Stands, SameCells, same-stands, read-cells, read-whole, sample-cells, write-whole, write-stands}
-use Rattle.w83782d.proofs.Ringing.{real-time, plan-rings, rings-where, rings-only}
+use Rattle.w83782d.proofs.Ringing.{plan-rings, rings-where, rings-only}
 
 -- ---- a plan in force or none
 Nothing : Force Set → Type 0
@@ -49,9 +50,6 @@ Nothing (plan p) = ⊥
 other : Set → Force Set → Set
 other q none = q
 other q (plan p) = p
-
-is-plan : (w : ℕ) (d : Divisor) (l : ℕ) → planOf w ≡ Plan d l → IsPlan w (valueOf d) l
-is-plan w d l e = subst (IsPlanned w) e (plan-of-is w) .plan refl
 
 module _ (f : ℕ) (h : 1 ≤ f) (h′ : f ≤ 3) where
   abbrev Stood : Monitor → Set → Type 0
@@ -120,51 +118,26 @@ module _ (f : ℕ) (h : 1 ≤ f) (h′ : f ≤ 3) where
 
   -- ---- what is said of one call
   module _ (m : Monitor) (k : Whole m) (w : ℕ) where
-    set-is : (d : Divisor) (l : ℕ) → planOf w ≡ Plan d l → Setting.setPlanOf (stateOf m) f w ≡ written (state (put (m .registers) f d l) (m .latches)) 0
-    unfolding Setting.setPlanOf
-    set-is d l e = simp (le-ltb f 1 h, le-ltb 3 f h′, e)
-
-    waits : (d : Divisor) (l g : ℕ) → getD (put (m .registers) f d l) (fanCell g) 0 ≡ getD (m .registers) (fanCell g) 0
-    waits d l g =
-        choose-ind (λ (c : ℕ). getD (put (m .registers) f d l) c 0 ≡ getD (m .registers) c 0) (eqb g 3) _ _
-        (λ _. put-other (m .registers) f d l _ (λ e. omega arith) (λ e. omega arith) (λ e. omega arith) (λ e. omega arith))
-        (λ _. put-other (m .registers) f d l _ (λ e. omega arith) (λ e. omega arith) (λ e. omega arith) (λ e. omega arith))
-
-    sets-plan : (d : Divisor) (l : ℕ) → planOf w ≡ Plan d l → SetsPlan f m w
-    unfolding divisorAt
-    sets-plan d l e =
-        let p = is-plan w d l e in
-        let small : l < 256 = omega (arith, is-plan w d l e .limit) in
-        let after = put (m .registers) f d l in
+    sets-plan : setPlanOf m f w .answer ≡ 0 → SetsPlan f m w
+    sets-plan a =
+        let p = plan-claims (stateOf m) f w k .set a in
+        let small : p .limit < 256 = omega (arith, p .isPlan .limit) in
         record {
-          answer = rw (set-is d l e);
-          divisor = d;
-          limit = l;
-          planned = e;
-          isPlan = p;
-          divisorSet = rw (set-is d l e) (ap fromBits (put-bits (m .registers) f d l k h′) ∙ from-exponent d);
-          limitSet = rw (set-is d l e) (put-limit (m .registers) f d l k h′ small);
-          kept = λ c j hj n i. rw (set-is d l e) (put-keeps (m .registers) f d l c j hj n i);
-          latches = rw (set-is d l e);
-          counts = λ g hg. rw (set-is d l e) (put-other (m .registers) f d l (fanCount g) (λ z. omega arith) (λ z. omega arith) (λ z. omega arith) (λ z. omega arith));
-          realTime = λ g.
-              rw (set-is d l e)
-              (real-time (record { registers = after; latches = m .latches }) (put-length (m .registers) f d l ∙ k) g ∙ ap (λ (b : ℕ). bit b (fanBit g)) (waits d l g) ∙ sym (real-time m k g));
+          answer = a;
+          set = p;
           least = λ c n hn all a b hb r.
               rings-where f h h′ c n (omega arith) a b
-              (plans-hold .least w (valueOf d) l p (valueOf c) n (value-is c) hn (λ i j hj hi. rings-only f h h′ c n (omega arith) i j (all i j hj hi)) a b hb (rings-only f h h′ d l small a b r));
+              (plans-hold .least w (valueOf (p .divisor)) (p .limit) (p .isPlan) (valueOf c) n (value-is c) hn
+              (λ i j hj hi. rings-only f h h′ c n (omega arith) i j (all i j hj hi)) a b hb
+              (rings-only f h h′ (p .divisor) (p .limit) small a b r));
         }
 
     -- a speed of 1 to 1,350,000 has a plan
     asked : 1 ≤ w → w ≤ perMinute → SetsPlan f m w
-    asked i j = go (planOf w) refl
-      where
-        fine : answerFor w ≡ 0
-        fine = simp (ne-eqb w 0 (λ z. omega arith), le-ltb perMinute w j)
-
-        go : (p : Planned) → planOf w ≡ p → SetsPlan f m w
-        go (Plan d l) e = sets-plan d l e
-        go Refused e = let z : _≡_ {A = ℕ} 6 0 = sym (ap planAnswer e) ∙ plan-of-is w .answer ∙ fine in absurd (omega arith)
+    asked i j =
+        sets-plan
+        (eqb-true (setPlanOf m f w .answer) 0
+        (plan-claims (stateOf m) f w k .answers .accepted ∙ simp (le-ltb f 1 h, le-ltb 3 f h′, ne-eqb w 0 (λ z. omega arith), le-ltb perMinute w j)))
 
   said : (m : Monitor) (p : Force Set) (c : Call) → Whole m → alarm.Stands Stood m p → Said f m p c
   said m p (setPlan g w) k s = λ e i j. asked m k w i j

@@ -3,12 +3,12 @@
 use mathlib.Core.Path.{_≡_}
 use mathlib.Core.Bool.{Bool, false, _&&_, _||_}
 use mathlib.Core.List.{List}
-use Prim.Native.Nat.{ℕ, _-_, _*_, _<_, _≤_}
+use Prim.Native.Nat.{ℕ, _-_, _*_, _≤_}
 use lib.Dec.{eqb, leb}
 use lib.ListN.{length, getD}
-use Rattle.bits.specs.Bits.{choose, bit, isOn, flagOf, isIn, changes}
+use Rattle.bits.specs.Bits.{choose, bit, isOn, flagOf, changes}
 use Rattle.fan.specs.Count.{perMinute, valueOf, countOf}
-use Rattle.fan.specs.Plan.{IsPlan, planRings}
+use Rattle.fan.specs.Plan.{planRings}
 use Rattle.fan.specs.Search.{planOf}
 use Rattle.fan.specs.declared.Divisor.{Divisor}
 use Rattle.fan.specs.declared.Planned.{Planned}
@@ -17,12 +17,12 @@ use Rattle.alarm.specs.Alarm.{Force, none, plan, Machine, Everywhere, rewrites}
 use Rattle.event.specs.declared.Sample.{Sample}
 use Rattle.w83782d_bus.specs.Map.{cells, at}
 use Rattle.w83782d_sample.specs.Sample as Rule
-use Rattle.w83782d_sample.specs.Sample.{fanCount, fanLimit, divisorPlaces, divisorOf}
 use Rattle.w83782d_sample_laws.specs.Claims.{fanBit}
 use Rattle.w83782d_plan.specs.Plan.{settings}
+use Rattle.w83782d_plan.specs.Claims.{PlanSet}
 use Rattle.w83782d.specs.declared.Monitor.{Monitor}
 use Rattle.w83782d.specs.declared.Answered.{Answered}
-use Rattle.w83782d.specs.Monitor.{writeOf, readOf, sampleOf, openedOf, setPlanOf}
+use Rattle.w83782d.specs.Monitor.{stateOf, writeOf, readOf, sampleOf, openedOf, setPlanOf}
 
 -- ---- "Its calls are bus write, bus read, sample, chassis opened and setting a plan"
 pub data Call : Type 0 where
@@ -109,23 +109,11 @@ RingsAt f d l a b =
 -- 1 and 4: asking for 1 to 1,350,000 rpm
 pub record SetsPlan (f : ℕ) (m : Monitor) (w : ℕ) : Type 0 where
   pub answer : setPlanOf m f w .answer ≡ 0
-  -- it sets document 01's plan for that speed
-  pub divisor : Divisor
-  pub limit : ℕ
-  pub planned : planOf w ≡ Plan divisor limit
-  pub isPlan : IsPlan w (valueOf divisor) limit
-  pub divisorSet : divisorOf (setPlanOf m f w .monitor .registers) f ≡ divisor
-  pub limitSet : getD (setPlanOf m f w .monitor .registers) (fanLimit f) 0 ≡ limit
-  -- and changes no register bit but that fan's limit and divisor, and no latch or mark
-  pub kept : (c j : ℕ) → j < 8 → eqb c (fanLimit f) ≡ false → isIn (divisorPlaces f) c j ≡ false
-      → bit (getD (setPlanOf m f w .monitor .registers) c 0) j ≡ bit (getD (m .registers) c 0) j
-  pub latches : setPlanOf m f w .monitor .latches ≡ m .latches
-  -- "Stored counts and real-time bits wait for the next sample."
-  pub counts : (g : ℕ) → g ≤ 3 → getD (setPlanOf m f w .monitor .registers) (fanCount g) 0 ≡ getD (m .registers) (fanCount g) 0
-  pub realTime : (g : ℕ) → realTimeBit (setPlanOf m f w .monitor) g ≡ realTimeBit m g
-  -- any divisor and limit that ring at every speed up to the one asked ring at every speed where the plan rings
+  -- it sets document 01's plan (d, L) for that speed, and changes no register bit but that fan's limit and divisor
+  pub set : PlanSet (stateOf m) (stateOf (setPlanOf m f w .monitor)) f w
+  -- any divisor and limit that ring at every speed a/b up to the one asked ring at every speed where the plan rings
   pub least : (e : Divisor) (k : ℕ) → k ≤ 255 → ((a b : ℕ) → 1 ≤ b → a ≤ w * b → RingsAt f e k a b)
-      → (a b : ℕ) → 1 ≤ b → RingsAt f divisor limit a b → RingsAt f e k a b
+      → (a b : ℕ) → 1 ≤ b → RingsAt f (set .divisor) (set .limit) a b → RingsAt f e k a b
 
 -- 2 and 3: a sample that is accepted while a plan is in force
 pub record Rings (f : ℕ) (m : Monitor) (p : Set) (x : Sample) : Type 0 where

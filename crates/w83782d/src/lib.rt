@@ -3,6 +3,7 @@
 ghost use mathlib.Core.Path.{_≡_};
 ghost use Rattle.w83782d_bus_laws.specs.Claims.{WriteClaims, ReadClaims, OpenedClaims};
 ghost use Rattle.w83782d_sample_laws.specs.Claims.{SampleClaims};
+ghost use Rattle.w83782d_plan.specs.Claims.{PlanClaims};
 ghost use Rattle.w83782d_readings.specs.Outputs.{smiOf, standingAlarms};
 ghost use Rattle.w83782d_readings.specs.Readings.{voltageOf, speedOf, temperatureOf, dutyOf};
 ghost use Rattle.w83782d.specs.Monitor.{stateOf, powerOnOf, writeOf, readOf, sampleOf, openedOf, setPlanOf, applyOf, ovtOf};
@@ -130,7 +131,8 @@ impl Monitor {
     // What it promises over every list of calls that follow, or come before, is `AlarmRings`.
     pub fn set_plan(mut self, fan: u8, rpm: u32) -> Answered
         ensures equation { λ r. ⌜ r ≡ setPlanOf self fan rpm ⌝ }
-        ensures claim { λ r. ⌜ AlarmRings ⌝ }
+        ensures claims { λ r. ⌜ PlanClaims (stateOf self) fan rpm ⌝ }
+        ensures alarm { λ r. ⌜ AlarmRings ⌝ }
     {
         let mut registers = self.registers;
         let latches = self.latches;

@@ -1,4 +1,6 @@
 use borrow.Author.Needs.{needs}
+use Rattle.w83782d.specs.Monitor.{stateOf}
+use Rattle.w83782d_plan.proofs.Proved.{plan-claims}
 use Rattle.w83782d.proofs.Alarm.{alarm-rings}
 use Rattle.w83782d.proofs.Faces.{plan-face}
 use Rattle.w83782d.proofs.Monitor.set_plan.Statement.{statement}
@@ -11,7 +13,9 @@ set-plan-in-requires : tie.Need-set-plan-in-requires
 set-plan-in-requires c κs = search needs
 
 returns : tie.Need-returns
-returns c = (search (needs, plan-face), alarm-rings)
+returns c =
+    let m = c .before .before .before .before .before .before .args .self in
+    (search (needs, plan-face), (plan-claims (stateOf m) _ _ (search needs), alarm-rings))
 
 pub set-plan-spec : {M : Type 1} → statement M
 set-plan-spec = tie.close (tie.spec slice-aggregate-set-plan-in set-plan-in-requires returns)

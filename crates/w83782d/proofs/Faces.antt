@@ -6,10 +6,11 @@ use Prim.Native.Nat.{ℕ, _<_}
 use mathlib.Core.Bool.{false}
 use borrow.Author.Tests.{eq-eqb, ne-eqb}
 use lib.ListN.{length, getD}
-use Rattle.w83782d_bus.specs.Map.{cells}
+use Rattle.w83782d_map.specs.Map.{cells}
 use Rattle.w83782d_bus.specs.Bus as Bus
-use Rattle.w83782d_bus.specs.Bus.{state, powerOn, powerOnLatches, written, Written, Read, sized, sizedRead, wroteIn, seenIn}
-use Rattle.w83782d_bus.specs.declared.Latches.{Latches}
+use Rattle.w83782d_latches.specs.Effects.{powerOnLatches}
+use Rattle.w83782d_bus.specs.Bus.{state, powerOn, written, Written, Read, sized, sizedRead, wroteIn, seenIn}
+use Rattle.w83782d_latches.specs.declared.Latches.{Latches}
 use Rattle.w83782d_bus.specs.declared.Wrote.{Wrote}
 use Rattle.w83782d_bus.specs.declared.Seen.{Seen}
 use Rattle.sensor.specs.Sensor.{armed}

@@ -20,10 +20,12 @@ use Rattle.bits.proofs.Every.{every-at, every-at2, same-tests}
 use Rattle.bits.proofs.Tables.{tabulate-length, tabulate-at}
 use Rattle.sensor.specs.Sensor.{armed, releasedOf}
 use Rattle.sensor.specs.declared.Remote.{Remote}
-use Rattle.w83782d_bus.specs.declared.Latches.{Latches}
-use Rattle.w83782d_bus.specs.Map.{cells, presentAt, writableAt, powerOnAt, keptAt, rows, configuration, interruptStatus1, interruptStatus2, chassisClear, vidFanDivisor, deviceId, bankSelect, vendorId, chipId, realTimeStatus2, remoteValue}
-use Rattle.w83782d_bus.specs.Bus.{State, state, bankOf, cellOf, reachOf, writeAnswer, storedBits, isCommand, resetRegisters, writtenRegisters, writtenLatches, writeOf, Written, readRegisters, readLatches, withReleased, isInterrupt, releases, readOf, Read, read, withChassis, shownOf, openedLatches}
-use Rattle.w83782d_bus.proofs.Cells.{answered-cell, present-cell}
+use Rattle.w83782d_latches.specs.declared.Latches.{Latches}
+use Rattle.w83782d_map.specs.Map.{cells, presentAt, writableAt, powerOnAt, keptAt, rows, configuration, interruptStatus1, interruptStatus2, chassisClear, vidFanDivisor, deviceId, bankSelect, vendorId, chipId, realTimeStatus2, remoteValue}
+use Rattle.w83782d_map.specs.Registers.{bankOf, cellOf, reachOf, writeAnswer, storedBits, isCommand, resetRegisters, withChassis, shownOf}
+use Rattle.w83782d_latches.specs.Effects.{writtenLatches, readLatches, withReleased, isInterrupt, releases, openedLatches}
+use Rattle.w83782d_bus.specs.Bus.{State, state, writtenRegisters, writeOf, Written, readRegisters, readOf, Read, read}
+use Rattle.w83782d_map.proofs.Cells.{answered-cell, present-cell}
 use Rattle.w83782d_bus_laws.proofs.Reached.{write-answer, read-answer}
 use Rattle.w83782d_bus_laws.specs.Claims.{Whole, isOff, cellIn, remoteIn, shownIn, SameMarks, SameLatches, Stores, Shows, Stored, Cleared, Resets, Reset, Leaves, ReadLeaves, ShownBytes, hasRule, statusBit, OpenedClaims}
 
@@ -158,7 +160,7 @@ unfolding resetRegisters
 reset-count rs = tabulate-length cells 0 (λ c. choose (keptAt c) (getD rs c 0) (powerOnAt c))
 
 reset-state : (s : State) (v : ℕ) → isOn v 7 ≡ true
-    → writeOf s 0x40 v ≡ record { state = state (resetRegisters (s .registers)) (Rattle.w83782d_bus.specs.Bus.resetLatches (s .latches)); answer = 0 }
+    → writeOf s 0x40 v ≡ record { state = state (resetRegisters (s .registers)) (Rattle.w83782d_latches.specs.Effects.resetLatches (s .latches)); answer = 0 }
 unfolding writeOf writtenRegisters writtenLatches
 reset-state s v e = rw (cell-40, answer-40) (simp e)
 

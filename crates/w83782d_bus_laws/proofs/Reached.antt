@@ -17,9 +17,10 @@ use Rattle.bits.specs.Bits.{bit, choose, mergeOf, change, changes, isOn}
 use Rattle.bits.specs.Map.{among}
 use Rattle.bits.proofs.BitLaws.{choose-ind}
 use Rattle.bits.proofs.Every.{every-at2, beq-same}
-use Rattle.w83782d_bus.specs.Map.{cells, presentAt, writableAt, rows, bankSelect}
-use Rattle.w83782d_bus.specs.Bus.{State, cellOf, bankOf, reachOf, writeAnswer, writtenRegisters, storedBits, writeOf, Written, readOf, Read}
-use Rattle.w83782d_bus.proofs.Cells.{present, present-rows, present-out, cell-alias, cell-any, cell-below, cell-above}
+use Rattle.w83782d_map.specs.Map.{cells, presentAt, writableAt, rows, bankSelect}
+use Rattle.w83782d_map.specs.Registers.{cellOf, bankOf, reachOf, writeAnswer, storedBits}
+use Rattle.w83782d_bus.specs.Bus.{State, writtenRegisters, writeOf, Written, readOf, Read}
+use Rattle.w83782d_map.proofs.Cells.{present, present-rows, present-out, cell-alias, cell-any, cell-below, cell-above}
 use Rattle.w83782d_bus_laws.specs.Claims.{answers1, Answers, Refused, Alias, Unbanked, BankSelected, AbsentBank, isAbsent}
 
 -- ---- answers

@@ -9,7 +9,7 @@ use bits::cell;
 use sensor::Mark;
 use sensor::Output;
 use sensor::Remote;
-use w83782d_bus::Latches;
+use w83782d_latches::Latches;
 
 const IMAGE: usize = 128;
 

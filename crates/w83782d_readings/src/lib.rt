@@ -14,7 +14,7 @@ use bits::is_on;
 use fan::Divided;
 use fan::Divisor;
 use fan::Speed;
-use w83782d_bus::with_chassis;
+use w83782d_map::with_chassis;
 use w83782d_sample::divisor_field;
 
 const SENSOR_1: usize = 0x27 - 0x20;

@@ -25,8 +25,8 @@ use Rattle.sensor.specs.declared.Output.{Output}
 use Rattle.sensor.specs.declared.Mark.{Mark}
 use Rattle.sensor.specs.declared.Remote.{Remote}
 use Rattle.event.specs.declared.Sample.{Sample}
-use Rattle.w83782d_bus.specs.declared.Latches.{Latches}
-use Rattle.w83782d_bus.specs.Map.{cells}
+use Rattle.w83782d_latches.specs.declared.Latches.{Latches}
+use Rattle.w83782d_map.specs.Map.{cells}
 use Rattle.w83782d_bus.specs.Bus.{state, written, sized}
 use Rattle.w83782d_sample.specs.declared.First.{First}
 use Rattle.w83782d_sample.specs.declared.Step.{Step}

@@ -23,9 +23,10 @@ use Rattle.sensor.specs.declared.Status.{Status}
 use Rattle.sensor.specs.declared.Output.{Output}
 use Rattle.sensor.specs.declared.Remote.{Remote}
 use Rattle.event.specs.declared.Sample.{Sample}
-use Rattle.w83782d_bus.specs.declared.Latches.{Latches}
-use Rattle.w83782d_bus.specs.Map.{at, atBank, configuration, interruptStatus1, interruptStatus2, realTimeStatus2}
-use Rattle.w83782d_bus.specs.Bus.{State, state, latches, Written, written}
+use Rattle.w83782d_latches.specs.declared.Latches.{Latches}
+use Rattle.w83782d_map.specs.Map.{at, atBank, configuration, interruptStatus1, interruptStatus2, realTimeStatus2}
+use Rattle.w83782d_latches.specs.Effects.{latches}
+use Rattle.w83782d_bus.specs.Bus.{State, state, Written, written}
 
 -- ---- the cells of a rail, a sensor and a fan
 abbrev pub voltage : ℕ → ℕ

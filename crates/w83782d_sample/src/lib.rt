@@ -7,7 +7,7 @@ ghost use Prim.Native.Nat.{_<_, _≤_, _+_};
 ghost use lib.ListN.{length, getD};
 ghost use Rattle.bits.specs.Bits.{word, placesOf};
 ghost use Rattle.fan.specs.Count.{valueOf, storedOf};
-ghost use Rattle.w83782d_bus.specs.Map.{cells};
+ghost use Rattle.w83782d_map.specs.Map.{cells};
 ghost use Rattle.w83782d_bus.specs.Bus.{state, sized, wroteIn};
 ghost use Rattle.w83782d_sample.specs.Sample.{divisorPlaces, divisorOf, isOutside, halfLevelAt, aboveAt, belowAt, isAbove, isBelow, isSlow, modeIf, storedReadings, judgedRegisters, steppedLatches, isFar, isStopped, sampleAnswer, sampleOf};
 ghost use Rattle.w83782d_sample.specs.Parts.{fieldOf, sensor1Step, remoteStep, withCounts, withCodes, withHalves, Judges};
@@ -33,9 +33,9 @@ use sensor::Remote;
 use sensor::Status;
 use sensor::output_step;
 use sensor::status_step;
-use w83782d_bus::CELLS;
-use w83782d_bus::Latches;
 use w83782d_bus::Wrote;
+use w83782d_latches::Latches;
+use w83782d_map::CELLS;
 
 // ---- Answer numbers
 

@@ -21,9 +21,10 @@ use Rattle.sensor.specs.Sensor.{remote}
 use Rattle.sensor.specs.declared.Status.{Status}
 use Rattle.sensor.specs.declared.Remote.{Remote}
 use Rattle.event.specs.declared.Sample.{Sample}
-use Rattle.w83782d_bus.specs.declared.Latches.{Latches}
-use Rattle.w83782d_bus.specs.Map.{cells, interruptStatus1, interruptStatus2, realTimeStatus2}
-use Rattle.w83782d_bus.specs.Bus.{State, latches}
+use Rattle.w83782d_latches.specs.declared.Latches.{Latches}
+use Rattle.w83782d_map.specs.Map.{cells, interruptStatus1, interruptStatus2, realTimeStatus2}
+use Rattle.w83782d_latches.specs.Effects.{latches}
+use Rattle.w83782d_bus.specs.Bus.{State}
 use Rattle.w83782d_sample.specs.Sample.{Source, firstByte, secondByte, voltage, highLimit, lowLimit, fanCount, fanLimit, sensor1Value, sensor1Over, sensor1Hysteresis, bankCell, ovtProperty, realTimeStatus1, voltageOf, halvesOf, countOf, isOutside, isAbove, isBelow, isSlow, statusMode, outputMode, remoteOf, statusAt, outputAt, condition, latchedBy, verdicts, latchedByte, readings, storedReadings, steppedLatches, sampleOf}
 use Rattle.w83782d_sample.specs.Sample.Source.{rail, sensor, fan, chassis}
 use Rattle.w83782d_sample_laws.specs.Claims.{halvesIn, Stores, cellIn, after, isBeside, isHotter, isColder, isSlower, holdsFor, flagAt, Fits, RealTime, FanRings, statusFor, outputFor, latchesFor, StatusOr, LatchesAfter}

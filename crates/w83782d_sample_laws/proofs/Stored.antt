@@ -22,8 +22,8 @@ use Rattle.fan.specs.Divisors.{divisorAt}
 use Rattle.fan.specs.declared.Divisor.{Divisor}
 use Rattle.sensor.specs.declared.Status.{Status}
 use Rattle.event.specs.declared.Sample.{Sample}
-use Rattle.w83782d_bus.specs.declared.Latches.{Latches}
-use Rattle.w83782d_bus.specs.Map.{cells, bankAt, indexAt, configuration, interruptStatus1, interruptStatus2}
+use Rattle.w83782d_latches.specs.declared.Latches.{Latches}
+use Rattle.w83782d_map.specs.Map.{cells, bankAt, indexAt, configuration, interruptStatus1, interruptStatus2}
 use Rattle.w83782d_bus.specs.Bus.{State}
 use Rattle.w83782d_sample.specs.Sample.{Store, puts, none, voltage, highLimit, lowLimit, fanCount, fanLimit, sensor1Value, sensor1Over, sensor1Hysteresis, bankCell, ovtProperty, divisorPlaces, divisorOf, countOf, isOutside, isAbove, isBelow, isSlow, statusMode, outputMode, statusAt, outputAt, latchedBy, readings, verdicts, storedReadings, judgedRegisters, steppedLatches, sampleAnswer, sampleOf}
 use Rattle.w83782d_sample.specs.Sample.Source.{sensor}

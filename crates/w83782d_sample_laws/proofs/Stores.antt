@@ -14,8 +14,8 @@ use Rattle.bits.specs.Map.{among}
 use Rattle.bits.proofs.BitLaws.{choose-ind}
 use Rattle.bits.proofs.Every.{same-tests}
 use Rattle.event.specs.declared.Sample.{Sample}
-use Rattle.w83782d_bus.specs.declared.Latches.{Latches}
-use Rattle.w83782d_bus.specs.Map.{cells, bankAt, indexAt}
+use Rattle.w83782d_latches.specs.declared.Latches.{Latches}
+use Rattle.w83782d_map.specs.Map.{cells, bankAt, indexAt}
 use Rattle.w83782d_bus.specs.Bus.{State, Written}
 use Rattle.w83782d_sample.specs.Sample.{Store, puts, readings, verdicts, storedReadings, judgedRegisters, steppedLatches, sampleAnswer, sampledState, sampleOf}
 use Rattle.w83782d_sample_laws.specs.Claims.{cellIn, after, touched, Frame}

@@ -1,7 +1,4 @@
 use borrow.Author.Needs.{needs}
-use mathlib.Core.Path.{sym, _∙_}
-use borrow.Author.Tests.{not-false}
-use Rattle.w83782d_bus.proofs.Cells.{present-cell}
 use Rattle.w83782d_bus.proofs.Cases.{read-short, read-refused, read-accepted}
 use Rattle.w83782d_bus.proofs.read_in.Statement.{statement}
 use Rattle.w83782d_bus.proofs.read_in.Tie as tie
@@ -22,7 +19,7 @@ returns-2 : tie.Need-returns-2
 returns-2 c = search (needs, read-refused)
 
 shown-requires : tie.Need-shown-requires
-shown-requires c κs = (search needs, present-cell _ (sym (c .before .before .is-present .ensures) ∙ not-false _ (c .before .if2 .left)))
+shown-requires c κs = search needs
 
 read-latches-requires : tie.Need-read-latches-requires
 read-latches-requires c κs = search needs

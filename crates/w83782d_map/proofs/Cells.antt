@@ -1,0 +1,187 @@
+-- The cells that the code reaches, and its sets of cells and values by their exceptions, are those of the rows.
+-- One computed test over all cells for the sets; the values by their arms. Assumes nothing.
+use mathlib.Core.Path.{_≡_, refl, ap, sym, _∙_}
+use mathlib.Core.Bool.{Bool, true, false, not, _&&_, Bool·beq}
+use mathlib.Core.List.{List, [], _∷_}
+use Prim.Native.Nat.{ℕ, _+_, _-_, _/_, _%_, _^_, _<_, _≤_}
+use native.Mathlib.Decide.{decLt}
+use native.Mathlib.Omega.{arith}
+use borrow.Author.Tests.{eq-eqb, ne-eqb, lt-ltb, le-ltb, le-leb, lt-leb, eqb-true, eqb-false, ltb-true, ltb-false, not-true, not-false}
+use lib.Bits.{bitAnd}
+use lib.Dec.{T, eqb, ltb, leb}
+use lib.ListN.{getD}
+use Rattle.bits.specs.Bits.{choose, bit, isOn}
+use Rattle.bits.specs.Map.{tabulate}
+use Rattle.bits.proofs.Every.{both, both-left, both-right, every-at, beq-same}
+use Rattle.bits.proofs.FieldLaws.{and-left}
+use Rattle.bits.proofs.Match.{NoKey, last-arm}
+use Rattle.w83782d_map.specs.Map.{cells, rows, keptByReset, presentAt, writableAt, powerOnAt, keptAt, bankSelect}
+use Rattle.w83782d_map.specs.Registers.{cellOf, reachOf, writeAnswer, storedBits}
+use Rattle.w83782d_map.specs.Parts.{inSet, acceptedBits}
+
+-- ---- the cell of an index
+pub reached : (rs : List ℕ) (i s c : ℕ) → s ≡ getD rs bankSelect 0 → c ≡ cellOf (bitAnd s 7) i → c ≡ reachOf rs i
+reached rs i s c e f = f ∙ ap (λ (x : ℕ). cellOf (bitAnd x 7) i) e
+
+module _ (b i : ℕ) where
+  pub cell-below : i < 0x20 → 112 ≡ cellOf b i
+  unfolding cellOf
+  cell-below h = simp (lt-ltb i 0x20 h)
+
+  pub cell-above : 0x20 ≤ i → 0x7F < i → 112 ≡ cellOf b i
+  unfolding cellOf
+  cell-above h k = simp (le-ltb i 0x20 h, lt-ltb 0x7F i k)
+
+  pub cell-alias : 0x20 ≤ i → i ≤ 0x7F → 0x60 ≤ i → i - 0x60 ≡ cellOf b i
+  unfolding cellOf
+  cell-alias h k a = simp (le-ltb i 0x20 h, le-ltb 0x7F i k, le-leb 0x60 i a) (omega arith)
+
+  pub cell-any : 0x20 ≤ i → i ≤ 0x7F → i < 0x60 → i < 0x50 → i - 0x20 ≡ cellOf b i
+  unfolding cellOf
+  cell-any h k a l = simp (le-ltb i 0x20 h, le-ltb 0x7F i k, lt-leb 0x60 i a, lt-ltb i 0x50 l)
+
+  module _ (h : 0x20 ≤ i) (k : i ≤ 0x7F) (a : i < 0x60) (l : 0x50 ≤ i) where
+    pub cell-bank-0 : b ≡ 0 → i - 0x20 ≡ cellOf b i
+    unfolding cellOf
+    cell-bank-0 e = simp (le-ltb i 0x20 h, le-ltb 0x7F i k, lt-leb 0x60 i a, le-ltb i 0x50 l, e)
+
+    pub cell-bank-1 : b ≡ 1 → i - 0x10 ≡ cellOf b i
+    unfolding cellOf
+    cell-bank-1 e = simp (le-ltb i 0x20 h, le-ltb 0x7F i k, lt-leb 0x60 i a, le-ltb i 0x50 l, e) (omega arith)
+
+    pub cell-bank-2 : b ≡ 2 → i ≡ cellOf b i
+    unfolding cellOf
+    cell-bank-2 e = simp (le-ltb i 0x20 h, le-ltb 0x7F i k, lt-leb 0x60 i a, le-ltb i 0x50 l, e) (omega arith)
+
+    pub cell-bank-4 : b ≡ 4 → i + 0x10 ≡ cellOf b i
+    unfolding cellOf
+    cell-bank-4 e = simp (le-ltb i 0x20 h, le-ltb 0x7F i k, lt-leb 0x60 i a, le-ltb i 0x50 l, e) (omega arith)
+
+    pub cell-bank-none : (b ≡ 0 → ⊥) → (b ≡ 1 → ⊥) → (b ≡ 2 → ⊥) → (b ≡ 4 → ⊥) → 112 ≡ cellOf b i
+    unfolding cellOf
+    cell-bank-none n0 n1 n2 n4 =
+        simp (le-ltb i 0x20 h, le-ltb 0x7F i k, lt-leb 0x60 i a, le-ltb i 0x50 l, ne-eqb b 0 n0, ne-eqb b 1 n1, ne-eqb b 2 n2, ne-eqb b 4 n4)
+
+-- ---- sets of cells
+abbrev pub present : ℕ → Bool
+present = inSet 0xffc0_ffdf_3fff_ffff 0x0600_007f_007f
+
+abbrev pub unwritable : ℕ → Bool
+unwritable = inSet 0x0100_8206_0000_07ff 0x0600_0003_0003
+
+abbrev pub kept : ℕ → Bool
+kept = inSet 0x0000_0100_0000_07ff 0x0000_0003_0003
+
+abbrev presentSame : ℕ → Bool
+presentSame c = Bool·beq (present c) (presentAt c)
+
+abbrev unwritableSame : ℕ → Bool
+unwritableSame c = Bool·beq (unwritable c) (presentAt c && eqb (writableAt c) 0)
+
+abbrev keptSame : ℕ → Bool
+keptSame c = Bool·beq (kept c) (keptAt c)
+
+asRows : ℕ → Bool
+asRows c = both (presentSame c) (both (unwritableSame c) (keptSame c))
+
+module _ (c : ℕ) (h : c < cells) where
+  as-rows : T (asRows c)
+  unfolding asRows bit presentAt writableAt keptAt rows keptByReset
+  as-rows = every-at asRows cells tt c h
+
+  pub present-rows : present c ≡ presentAt c
+  unfolding asRows
+  present-rows = beq-same (present c) (presentAt c) (both-left (presentSame c) (both (unwritableSame c) (keptSame c)) as-rows)
+
+  unwritable-rows : unwritable c ≡ (presentAt c && eqb (writableAt c) 0)
+  unfolding asRows
+  unwritable-rows =
+      beq-same (unwritable c) (presentAt c && eqb (writableAt c) 0)
+      (both-left (unwritableSame c) (keptSame c) (both-right (presentSame c) (both (unwritableSame c) (keptSame c)) as-rows))
+
+  pub kept-rows : kept c ≡ keptAt c
+  unfolding asRows
+  kept-rows =
+      beq-same (kept c) (keptAt c) (both-right (unwritableSame c) (keptSame c) (both-right (presentSame c) (both (unwritableSame c) (keptSame c)) as-rows))
+
+-- ---- the functions of a cell, by their cases
+pub has-low : (s b c : ℕ) → c < 64 → eqb (bit s c) 1 ≡ inSet s b c
+has-low s b c h = simp (lt-ltb c 64 h)
+
+pub has-high : (s b c : ℕ) → 64 ≤ c → eqb (bit b (c - 64)) 1 ≡ inSet s b c
+has-high s b c h = simp (le-ltb c 64 h)
+
+pub present-out : (c : ℕ) → cells ≤ c → false ≡ presentAt c
+unfolding presentAt
+present-out c h = simp (le-ltb c cells h)
+
+pub present-in : (c : ℕ) (r : Bool) → c < cells → r ≡ present c → r ≡ presentAt c
+present-in c r h e = e ∙ present-rows c h
+
+pub answer-out : (c : ℕ) → cells ≤ c → 1 ≡ writeAnswer c
+unfolding writeAnswer
+answer-out c h = simp (← present-out c h)
+
+pub answer-absent : (c : ℕ) (r : Bool) → c < cells → r ≡ present c → not r ≡ true → 1 ≡ writeAnswer c
+unfolding writeAnswer
+answer-absent c r h e f = simp (← present-rows c h, ← e, not-true r f)
+
+pub answer-read-only : (c : ℕ) (r u : Bool) → c < cells → r ≡ present c → not r ≡ false → u ≡ unwritable c → u ≡ true → 2 ≡ writeAnswer c
+unfolding writeAnswer
+answer-read-only c r u h e f g k =
+    let p : presentAt c ≡ true = sym (present-rows c h) ∙ sym e ∙ not-false r f in
+    let w : eqb (writableAt c) 0 ≡ true = rw p at (sym (unwritable-rows c h) ∙ sym g ∙ k) in
+    simp (p, w)
+
+pub answer-accepted : (c : ℕ) (r u : Bool) → c < cells → r ≡ present c → not r ≡ false → u ≡ unwritable c → u ≡ false → 0 ≡ writeAnswer c
+unfolding writeAnswer
+answer-accepted c r u h e f g k =
+    let p : presentAt c ≡ true = sym (present-rows c h) ∙ sym e ∙ not-false r f in
+    let w : eqb (writableAt c) 0 ≡ false = rw p at (sym (unwritable-rows c h) ∙ sym g ∙ k) in
+    simp (p, w)
+
+-- an accepted write is to a cell
+pub answered-cell : (c : ℕ) → writeAnswer c ≡ 0 → c < cells
+answered-cell c e = go (decLt c cells)
+  where
+    go : Dec (c < cells) → c < cells
+    go (yes h) = h
+    go (no n) = absurd (omega (arith, answer-out c (omega arith)))
+
+pub present-cell : (c : ℕ) → presentAt c ≡ true → c < cells
+unfolding presentAt
+present-cell c e = ltb-true c cells (and-left (ltb c cells) _ e)
+
+-- ---- the values of a cell, arm by arm; the keys of all arms, the last arm's first
+abbrev pub storedKeys : List (List ℕ)
+storedKeys =
+    (84 ∷ 86 ∷ []) ∷ (68 ∷ 70 ∷ []) ∷ (66 ∷ 82 ∷ []) ∷ (61 ∷ []) ∷ (57 ∷ []) ∷ (55 ∷ []) ∷ (46 ∷ []) ∷ (44 ∷ []) ∷ (43 ∷ []) ∷ (40 ∷ 60 ∷ []) ∷ (39 ∷ []) ∷ (38 ∷ [])
+    ∷ (36 ∷ []) ∷ (32 ∷ []) ∷ []
+
+pub accepted-bits : (c : ℕ) → writeAnswer c ≡ 0 → acceptedBits c ≡ storedBits c
+unfolding acceptedBits
+accepted-bits c e = rw e
+
+stored-in : (c : ℕ) → c < cells → NoKey storedKeys c → 0xFF ≡ acceptedBits c
+unfolding acceptedBits writeAnswer presentAt writableAt rows
+stored-in c h n = last-arm acceptedBits 0xFF storedKeys cells tt c h n
+
+stored-out : (c : ℕ) → cells ≤ c → 0xFF ≡ acceptedBits c
+unfolding acceptedBits
+stored-out c h = simp (← answer-out c h)
+
+pub stored-rest : (c : ℕ) → NoKey storedKeys c → 0xFF ≡ acceptedBits c
+stored-rest c n = go (decLt c cells)
+  where
+    go : Dec (c < cells) → 0xFF ≡ acceptedBits c
+    go (yes h) = stored-in c h n
+    go (no k) = stored-out c (omega arith)
+
+abbrev pub powerKeys : List (List ℕ)
+powerKeys =
+    (69 ∷ 85 ∷ []) ∷ (67 ∷ 83 ∷ []) ∷ (60 ∷ []) ∷ (58 ∷ 63 ∷ []) ∷ (59 ∷ 62 ∷ []) ∷ (57 ∷ []) ∷ (56 ∷ []) ∷ (46 ∷ 55 ∷ []) ∷ (45 ∷ []) ∷ (43 ∷ []) ∷ (41 ∷ []) ∷ (40 ∷ [])
+    ∷ (39 ∷ []) ∷ (32 ∷ 42 ∷ 44 ∷ []) ∷ []
+
+pub power-rest : (c : ℕ) → c < cells → NoKey powerKeys c → 0 ≡ powerOnAt c
+unfolding powerOnAt rows
+power-rest c h n = last-arm powerOnAt 0 powerKeys cells tt c h n

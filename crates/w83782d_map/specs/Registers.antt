@@ -1,0 +1,82 @@
+-- What an access reaches, answers, stores and shows, and what power-on and reset give every cell (document 01, "Register map").
+use mathlib.Core.Bool.{Bool, _&&_, _||_}
+use mathlib.Core.List.{List}
+use Prim.Native.Nat.{ℕ, _-_}
+use lib.Bits.{bitAnd, bitOr}
+use lib.Dec.{ltb, leb, eqb}
+use lib.ListN.{length, getD}
+use Rattle.bits.specs.Bits.{choose, isOn}
+use Rattle.bits.specs.Map.{tabulate}
+use Rattle.w83782d_map.specs.Map.{cells, at, atBank, presentAt, writableAt, powerOnAt, keptAt, configuration, interruptStatus2, chassisClear, vidFanDivisor, deviceId, bankSelect, vendorId, chipId, realTimeStatus2}
+
+-- the registers' slice has 112 cells
+abbrev pub fits : List ℕ → Bool
+fits rs = eqb (length rs) cells
+
+-- ---- which register an access reaches
+
+-- "For 50h to 5Fh the bank is 4Eh bits 2-0"
+abbrev pub bankOf : List ℕ → ℕ
+bankOf rs = bitAnd (getD rs bankSelect 0) 0b0000_0111
+
+-- "Index 60h to 7Fh is the same storage as 20h to 3Fh."; "other indexes ignore the bank"; below 20h and above 7Fh there is none
+unfoldable pub cellOf : ℕ → ℕ → ℕ
+cellOf b i =
+    choose (ltb i 0x20) cells
+    (choose (ltb 0x7F i) cells
+    (choose (leb 0x60 i) (at (i - 0x40))
+    (choose (ltb i 0x50) (at i)
+    (atBank b i))))
+
+abbrev pub reachOf : List ℕ → ℕ → ℕ
+reachOf rs i = cellOf (bankOf rs) i
+
+-- ---- answers: 1 before 2
+
+-- 1: "index below 20h or above 7Fh, reserved index, or absent bank"; 2: "write to a read-only register"
+unfoldable pub writeAnswer : ℕ → ℕ
+writeAnswer c = choose (presentAt c) (choose (eqb (writableAt c) 0) 2 0) 1
+
+unfoldable pub readAnswer : ℕ → ℕ
+readAnswer c = choose (presentAt c) 0 1
+
+-- ---- power-on and reset of the registers
+
+unfoldable pub powerOnRegisters : List ℕ
+powerOnRegisters = tabulate cells 0 powerOnAt
+
+-- "Writing 40h with bit 7 set restores all of this except 48h, the stored readings and the chassis latch (house)"
+unfoldable pub resetRegisters : List ℕ → List ℕ
+resetRegisters rs = tabulate cells 0 (λ c. choose (keptAt c) (getD rs c 0) (powerOnAt c))
+
+-- ---- commands, and the bits that a write stores
+
+-- bit 7 of 40h and of 46h is a command: it is never stored
+abbrev pub isCommand : ℕ → ℕ → Bool
+isCommand c v = (eqb c configuration || eqb c chassisClear) && isOn v 7
+
+abbrev pub storedBits : ℕ → ℕ
+storedBits c = choose (eqb c configuration || eqb c chassisClear) (bitAnd (writableAt c) 0b0111_1111) (writableAt c)
+
+-- ---- what a read shows
+
+-- the chassis bit "there and in 5Ah is the latch itself"; bits 7 and 6 are reserved
+abbrev pub withChassis : ℕ → Bool → ℕ
+withChassis b chassis = bitOr (bitAnd b 0b0010_1111) (choose chassis 0b0001_0000 0)
+
+-- "4Fh reads 5Ch when 4Eh bit 7 is 1, else A3h."
+abbrev pub vendorByte : ℕ → ℕ
+vendorByte b = choose (isOn b 7) 0x5C 0xA3
+
+-- the byte that a read of a cell shows; what no rule names is the cell itself
+unfoldable pub shownOf : List ℕ → Bool → ℕ → ℕ
+shownOf rs chassis c =
+    choose (eqb c configuration) (bitAnd (getD rs c 0) 0b0111_1111)  -- "40h bit 7 always reads 0"
+    (choose (eqb c interruptStatus2) (withChassis (getD rs c 0) chassis)
+    (choose (eqb c realTimeStatus2) (withChassis (getD rs c 0) chassis)
+    (choose (eqb c chassisClear) 0x00  -- "46h reads 00h."
+    (choose (eqb c vidFanDivisor) (bitAnd (getD rs c 0) 0b1111_0000)  -- "VID bits (47h bits 3-0, 49h bit 0) read 0."
+    (choose (eqb c deviceId) 0x02
+    (choose (eqb c vendorId) (vendorByte (getD rs bankSelect 0))
+    (choose (eqb c chipId) 0x30  -- "58h reads 30h."
+    (getD rs c 0))))))))

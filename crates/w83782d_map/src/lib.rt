@@ -1,0 +1,311 @@
+// The register map of the W83782D: named cells, sets of cells and values by cell, and what is made of them: the cell that an
+// access reaches, the answer to a write, the bits it stores, power-on and reset of every cell, the byte that a read shows.
+ghost use mathlib.Core.Path.{_≡_};
+ghost use mathlib.Core.Bool.{_&&_};
+ghost use Prim.Native.Nat.{_<_};
+ghost use lib.Dec.{eqb};
+ghost use lib.ListN.{length, getD};
+ghost use Rattle.bits.specs.Bits.{isOn};
+ghost use Rattle.w83782d_map.specs.Map.{cells, presentAt, powerOnAt};
+ghost use Rattle.w83782d_map.specs.Registers.{cellOf, reachOf, writeAnswer, withChassis, vendorByte, shownOf};
+ghost use Rattle.w83782d_map.specs.Parts.{inSet, acceptedBits, restoredByte, restoredRegisters, restoredIn};
+use bits::Bit;
+use bits::is_on;
+
+// ---- Answer numbers
+
+const ACCEPTED: u8 = 0;
+
+const ABSENT: u8 = 1;
+
+const READ_ONLY: u8 = 2;
+
+// ---- Cells: bank 0 20h-5Fh, then banks 1, 2 and 4 from 50h up
+
+pub const CELLS: usize = 112;
+
+pub const CONFIGURATION: usize = 0x40 - 0x20;
+
+pub const INTERRUPT_STATUS_1: usize = 0x41 - 0x20;
+
+pub const INTERRUPT_STATUS_2: usize = 0x42 - 0x20;
+
+const SMI_MASK_2: usize = 0x44 - 0x20;
+
+pub const CHASSIS_CLEAR: usize = 0x46 - 0x20;
+
+const VID_FAN_DIVISOR: usize = 0x47 - 0x20;
+
+const BUS_ADDRESS: usize = 0x48 - 0x20;
+
+const DEVICE_ID: usize = 0x49 - 0x20;
+
+const REMOTE_ADDRESS: usize = 0x4a - 0x20;
+
+const PIN_CONTROL: usize = 0x4b - 0x20;
+
+const IRQ_OVT: usize = 0x4c - 0x20;
+
+const GPO_CONTROL: usize = 0x4d - 0x20;
+
+const BANK_SELECT: usize = 0x4e - 0x20;
+
+const VENDOR_ID: usize = 0x4f - 0x20;
+
+const BEEP_CONTROL_2: usize = 0x57 - 0x20;
+
+const CHIP_ID: usize = 0x58 - 0x20;
+
+const DIODE_SELECTION: usize = 0x59 - 0x20;
+
+const PWM_DUTY_2: usize = 0x5a - 0x20;
+
+const PWM_DUTY_1: usize = 0x5b - 0x20;
+
+const PWM_CLOCK: usize = 0x5c - 0x20;
+
+const VBAT_FAN_DIVISOR: usize = 0x5d - 0x20;
+
+const PWM_DUTY_3: usize = 0x5e - 0x20;
+
+const PWM_DUTY_4: usize = 0x5f - 0x20;
+
+pub const BANK_1: usize = 64;
+
+const SENSOR_2_CONFIGURATION: usize = BANK_1 + 2;
+
+const SENSOR_2_HYSTERESIS: usize = BANK_1 + 3;
+
+const SENSOR_2_HYSTERESIS_LOW: usize = BANK_1 + 4;
+
+const SENSOR_2_OVER: usize = BANK_1 + 5;
+
+const SENSOR_2_OVER_LOW: usize = BANK_1 + 6;
+
+pub const BANK_2: usize = 80;
+
+const SENSOR_3_CONFIGURATION: usize = BANK_2 + 2;
+
+const SENSOR_3_HYSTERESIS: usize = BANK_2 + 3;
+
+const SENSOR_3_HYSTERESIS_LOW: usize = BANK_2 + 4;
+
+const SENSOR_3_OVER: usize = BANK_2 + 5;
+
+const SENSOR_3_OVER_LOW: usize = BANK_2 + 6;
+
+const BANK_4: usize = 96;
+
+const REAL_TIME_STATUS_2: usize = BANK_4 + 0xa;
+
+// Sets of cells, a bit for each: from the right 20h-2Fh, 30h-3Fh, 40h-4Fh, 50h-5Fh of bank 0; then, in the
+// second word, 50h-5Fh of banks 1, 2 and 4.
+const PRESENT: u64 = 0xffc0_ffdf_3fff_ffff;
+
+const PRESENT_BANKED: u64 = 0x0600_007f_007f;
+
+const UNWRITABLE: u64 = 0x0100_8206_0000_07ff;
+
+const UNWRITABLE_BANKED: u64 = 0x0600_0003_0003;
+
+const KEPT_BY_RESET: u64 = 0x0000_0100_0000_07ff;
+
+const KEPT_BY_RESET_BANKED: u64 = 0x0000_0003_0003;
+
+// Whether a cell is in a set.
+fn has(set: u64, banked: u64, cell: usize) -> bool
+    requires { ⌜ cell < cells ⌝ }
+    ensures { λ r. ⌜ r ≡ inSet set banked cell ⌝ }
+{
+    if cell < 64 {
+        return (set >> cell) % 2 == 1;
+    }
+    (banked >> (cell - 64)) % 2 == 1
+}
+
+// The cell of an index in a bank; CELLS where there is none.
+fn cell_of(index: u8, bank: u8) -> usize
+    ensures { λ r. ⌜ r ≡ cellOf bank index ⌝ }
+{
+    let i = index as usize;
+    if i < 0x20 {
+        return CELLS;
+    }
+    if 0x7f < i {
+        return CELLS;
+    }
+    if 0x60 <= i {
+        return i - 0x60;
+    }
+    if i < 0x50 {
+        return i - 0x20;
+    }
+    match bank {
+        0 => i - 0x20,
+        1 => i - 0x10,
+        2 => i,
+        4 => i + 0x10,
+        _ => CELLS,
+    }
+}
+
+// The cell that an access at an index reaches; CELLS where there is none.
+pub fn reach(s: &[u8], index: u8) -> usize
+    ensures { λ r. ⌜ r ≡ reachOf (now (s .entry)) index ⌝ }
+{
+    cell_of(index, bits::cell(s, BANK_SELECT) & 0b0000_0111)
+}
+
+// Whether a number is the cell of a register.
+pub fn is_present(cell: usize) -> bool
+    ensures { λ r. ⌜ r ≡ presentAt cell ⌝ }
+{
+    if CELLS <= cell {
+        return false;
+    }
+    has(PRESENT, PRESENT_BANKED, cell)
+}
+
+// The answer to a write to a cell.
+pub fn answer_to_write(cell: usize) -> u8
+    ensures { λ r. ⌜ r ≡ writeAnswer cell ⌝ }
+{
+    if CELLS <= cell {
+        return ABSENT;
+    }
+    if !has(PRESENT, PRESENT_BANKED, cell) {
+        return ABSENT;
+    }
+    if has(UNWRITABLE, UNWRITABLE_BANKED, cell) {
+        return READ_ONLY;
+    }
+    ACCEPTED
+}
+
+// The bits that an accepted write to a cell stores; all where it is refused.
+pub fn stored_bits(cell: usize) -> u8
+    ensures { λ r. ⌜ r ≡ acceptedBits cell ⌝ }
+{
+    match cell {
+        CONFIGURATION => 0b0100_1011,
+        SMI_MASK_2 => 0b0011_1111,
+        CHASSIS_CLEAR => 0b0000_0000,
+        VID_FAN_DIVISOR => 0b1111_0000,
+        BUS_ADDRESS | PWM_CLOCK => 0b0111_1111,
+        PIN_CONTROL => 0b1111_1100,
+        IRQ_OVT => 0b0101_1100,
+        BANK_SELECT => 0b1000_0111,
+        BEEP_CONTROL_2 => 0b1011_1111,
+        DIODE_SELECTION => 0b0111_0000,
+        VBAT_FAN_DIVISOR => 0b1110_1111,
+        SENSOR_2_CONFIGURATION | SENSOR_3_CONFIGURATION => 0b0001_1011,
+        SENSOR_2_HYSTERESIS_LOW | SENSOR_2_OVER_LOW => 0b1000_0000,
+        SENSOR_3_HYSTERESIS_LOW | SENSOR_3_OVER_LOW => 0b1000_0000,
+        _ => 0b1111_1111,
+    }
+}
+
+// The power-on value of a cell.
+fn power_on_byte(cell: usize) -> u8
+    requires { ⌜ cell < cells ⌝ }
+    ensures { λ r. ⌜ r ≡ powerOnAt cell ⌝ }
+{
+    match cell {
+        CONFIGURATION | REMOTE_ADDRESS | IRQ_OVT => 0x01,
+        VID_FAN_DIVISOR => 0x50,
+        BUS_ADDRESS => 0x2d,
+        DEVICE_ID => 0x02,
+        PIN_CONTROL => 0x44,
+        GPO_CONTROL => 0x15,
+        BANK_SELECT | BEEP_CONTROL_2 => 0x80,
+        CHIP_ID => 0x30,
+        DIODE_SELECTION => 0x70,
+        PWM_DUTY_1 | PWM_DUTY_3 => 0xff,
+        PWM_DUTY_2 | PWM_DUTY_4 => 0xff,
+        PWM_CLOCK => 0x11,
+        SENSOR_2_HYSTERESIS | SENSOR_3_HYSTERESIS => 0x4b,
+        SENSOR_2_OVER | SENSOR_3_OVER => 0x50,
+        _ => 0x00,
+    }
+}
+
+// ---- Power-on and reset
+
+// What a cell gets: its power-on value, unless it is to be kept and a reset keeps it.
+fn restored(cell: usize, old: u8, keep: bool) -> u8
+    requires { ⌜ cell < cells ⌝ }
+    ensures { λ r. ⌜ r ≡ restoredByte keep cell old ⌝ }
+{
+    if !keep {
+        return power_on_byte(cell);
+    }
+    if has(KEPT_BY_RESET, KEPT_BY_RESET_BANKED, cell) {
+        return old;
+    }
+    power_on_byte(cell)
+}
+
+// Power-on of every cell, or a reset, which keeps some. A slice that is not of 112 cells stays.
+pub fn restore(s: &mut [u8], keep: bool)
+    ensures { λ r. ⌜ now (s .exit) ≡ restoredIn keep (now (s .entry)) ⌝ }
+{
+    if s.len() != CELLS {
+        return;
+    }
+    let mut cell = 0;
+    while cell < CELLS {
+        s[cell] = restored(cell, s[cell], keep);
+        cell += 1;
+    }
+}
+
+// ---- Commands
+
+// Whether a write is the command of a cell: bit 7 of 40h resets, of 46h clears the chassis latch.
+pub fn is_command(of: usize, cell: usize, value: u8) -> bool
+    ensures { λ r. ⌜ r ≡ (eqb cell of && isOn value 7) ⌝ }
+{
+    if cell != of {
+        return false;
+    }
+    is_on(value, Bit::B7)
+}
+
+// ---- What a read shows
+
+// A byte of 42h or 5Ah as a read shows it: bits 5, 3-0 of the cell, and the latch as bit 4.
+pub fn with_chassis(byte: u8, chassis: bool) -> u8
+    ensures { λ r. ⌜ r ≡ withChassis byte chassis ⌝ }
+{
+    let rest = byte & 0b0010_1111;
+    if chassis {
+        return rest | 0b0001_0000;
+    }
+    rest | 0
+}
+
+fn vendor_byte(select: u8) -> u8
+    ensures { λ r. ⌜ r ≡ vendorByte select ⌝ }
+{
+    if is_on(select, Bit::B7) {
+        return 0x5c;
+    }
+    0xa3
+}
+
+// The byte that a read of a cell shows.
+pub fn shown(s: &[u8], chassis: bool, cell: usize) -> u8
+    ensures { λ r. ⌜ r ≡ shownOf (now (s .entry)) chassis cell ⌝ }
+{
+    let byte = bits::cell(s, cell);
+    match cell {
+        CONFIGURATION => byte & 0b0111_1111,
+        INTERRUPT_STATUS_2 | REAL_TIME_STATUS_2 => with_chassis(byte, chassis),
+        CHASSIS_CLEAR => 0x00,
+        VID_FAN_DIVISOR => byte & 0b1111_0000,
+        DEVICE_ID => 0x02,
+        VENDOR_ID => vendor_byte(bits::cell(s, BANK_SELECT)),
+        CHIP_ID => 0x30,
+        _ => byte,
+    }
+}

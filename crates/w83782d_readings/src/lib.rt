@@ -15,7 +15,7 @@ use fan::Divided;
 use fan::Divisor;
 use fan::Speed;
 use w83782d_map::with_chassis;
-use w83782d_sample::divisor_field;
+use w83782d_store::divisor_field;
 
 const SENSOR_1: usize = 0x27 - 0x20;
 

@@ -4,28 +4,19 @@ ghost use mathlib.Core.Path.{_≡_};
 ghost use mathlib.Core.Bool.{false};
 ghost use mathlib.Core.List.{[], _∷_};
 ghost use Prim.Native.Nat.{_<_, _≤_, _+_};
-ghost use lib.ListN.{length, getD};
-ghost use Rattle.bits.specs.Bits.{word, placesOf};
-ghost use Rattle.fan.specs.Count.{valueOf, storedOf};
+ghost use lib.ListN.{length};
+ghost use Rattle.bits.specs.Bits.{word};
 ghost use Rattle.w83782d_map.specs.Map.{cells};
 ghost use Rattle.w83782d_bus.specs.Bus.{state, sized, wroteIn};
-ghost use Rattle.w83782d_sample.specs.Sample.{divisorPlaces, divisorOf, isOutside, halfLevelAt, aboveAt, belowAt, isAbove, isBelow, isSlow, modeIf, storedReadings, judgedRegisters, steppedLatches, isFar, isStopped, sampleAnswer, sampleOf};
-ghost use Rattle.w83782d_sample.specs.Parts.{fieldOf, sensor1Step, remoteStep, withCounts, withCodes, withHalves, Judges};
-use analog::HalfCode;
-use analog::half_code;
+ghost use Rattle.w83782d_sample.specs.Sample.{isOutside, halfLevelAt, aboveAt, belowAt, isAbove, isBelow, isSlow, modeIf, judgedRegisters, steppedLatches, sampleOf};
+ghost use Rattle.w83782d_sample.specs.Parts.{sensor1Step, remoteStep, Judges};
 use analog::half_level;
-use analog::whole_code;
 use analog::whole_level;
 use bits::Bit;
-use bits::Field;
-use bits::Place;
 use bits::is_on;
 use bits::pack;
 use event::Sample;
 use fan::Divided;
-use fan::Divisor;
-use fan::Undivided;
-use fan::divide;
 use fan::rings;
 use sensor::Mark;
 use sensor::Mode;
@@ -35,15 +26,17 @@ use sensor::output_step;
 use sensor::status_step;
 use w83782d_bus::Wrote;
 use w83782d_latches::Latches;
+use w83782d_map::BANK_1;
+use w83782d_map::BANK_2;
 use w83782d_map::CELLS;
+use w83782d_map::INTERRUPT_STATUS_1;
+use w83782d_map::INTERRUPT_STATUS_2;
+use w83782d_store::answer_to;
+use w83782d_store::store;
 
 // ---- Answer numbers
 
 const ACCEPTED: u8 = 0;
-
-const BAD_TEMPERATURE: u8 = 3;
-
-const STOPPED: u8 = 4;
 
 const WRONG_LENGTH: u8 = 8;
 
@@ -55,25 +48,9 @@ const SENSOR_1_OVER: usize = 0x39 - 0x20;
 
 const SENSOR_1_HYSTERESIS: usize = 0x3a - 0x20;
 
-const CONFIGURATION: usize = 0x40 - 0x20;
-
-const INTERRUPT_STATUS_1: usize = 0x41 - 0x20;
-
-const INTERRUPT_STATUS_2: usize = 0x42 - 0x20;
-
-const FAN_DIVISOR_1_2: usize = 0x47 - 0x20;
-
-const FAN_DIVISOR_3: usize = 0x4b - 0x20;
-
 const IRQ_OVT: usize = 0x4c - 0x20;
 
-const FAN_DIVISOR_TOP: usize = 0x5d - 0x20;
-
-// Of the banks 1, 2 and 4, and within the banks of sensors 2 and 3.
-const BANK_1: usize = 64;
-
-const BANK_2: usize = 80;
-
+// Within the banks of sensors 2 and 3, and of bank 4.
 const CONFIGURED: usize = 2;
 
 const HYSTERESIS: usize = 3;
@@ -251,102 +228,6 @@ fn second_byte(s: &[u8], three: bool) -> u8
     )
 }
 
-// ---- Readings
-
-// Where the three bits of a fan's divisor lie; of a number above 2, fan 3's.
-pub fn divisor_field(f: usize) -> Field
-    ensures { λ r. ⌜ placesOf r ≡ divisorPlaces f ⌝ }
-{
-    match f {
-        1 => field(FAN_DIVISOR_1_2, Bit::B4, Bit::B5, Bit::B5),
-        2 => field(FAN_DIVISOR_1_2, Bit::B6, Bit::B7, Bit::B6),
-        _ => field(FAN_DIVISOR_3, Bit::B6, Bit::B7, Bit::B7),
-    }
-}
-
-// Two bits in one cell, and the top one in 5Dh.
-fn field(cell: usize, low: Bit, middle: Bit, high: Bit) -> Field
-    ensures { λ r. ⌜ r ≡ fieldOf cell low middle high ⌝ }
-{
-    let a = Place { cell, bit: low };
-    let b = Place { cell, bit: middle };
-    let c = Place {
-        cell: FAN_DIVISOR_TOP,
-        bit: high,
-    };
-    Field {
-        low: a,
-        middle: b,
-        high: c,
-    }
-}
-
-// The count to store for a fan, by the divisor now set.
-fn count(s: &[u8], f: usize, u: Undivided) -> u8
-    ensures { λ r. ⌜ r ≡ storedOf (u .0) (valueOf (divisorOf (now (s .entry)) f)) ⌝ }
-{
-    let divisor = Divisor::gathered(s, divisor_field(f));
-    let divided = divide(u, divisor);
-    divided.0
-}
-
-fn store_counts(s: &mut [u8], x: Sample)
-    requires { ⌜ length (now s) ≡ cells ⌝ }
-    ensures { λ r. ⌜ now (s .exit) ≡ withCounts (now (s .entry)) x ⌝ }
-{
-    let a = x.counts[0];
-    let b = x.counts[1];
-    let c = x.counts[2];
-    let one = count(s, 1, a);
-    let two = count(s, 2, b);
-    let three = count(s, 3, c);
-    s[COUNTS + 1] = one;
-    s[COUNTS + 2] = two;
-    s[COUNTS + 3] = three;
-}
-
-fn store_codes(s: &mut [u8], x: Sample)
-    requires { ⌜ length (now s) ≡ cells ⌝ }
-    ensures { λ r. ⌜ now (s .exit) ≡ withCodes (now (s .entry)) x ⌝ }
-{
-    s[0] = x.codes[0];
-    s[1] = x.codes[1];
-    s[2] = x.codes[2];
-    s[3] = x.codes[3];
-    s[4] = x.codes[4];
-    s[5] = x.codes[5];
-    s[6] = x.codes[6];
-    s[SENSOR_1] = whole_code(x.sensor1);
-}
-
-// The two bytes of a sensor's half degrees; out of range they are 0, and such a sample is refused.
-fn store_halves(s: &mut [u8], bank: usize, halves: i16)
-    requires { ⌜ (length (now s) ≡ cells) × (bank ≤ 80) ⌝ }
-    ensures { λ r. ⌜ now (s .exit) ≡ withHalves (now (s .entry)) bank halves ⌝ }
-{
-    let code = half_code(halves);
-    match code {
-        HalfCode::Code { high, low } => {
-            s[bank] = high;
-            s[bank + 1] = low;
-        }
-        HalfCode::OutOfRange => {
-            s[bank] = 0;
-            s[bank + 1] = 0;
-        }
-    }
-}
-
-fn store(s: &mut [u8], x: Sample)
-    requires { ⌜ length (now s) ≡ cells ⌝ }
-    ensures { λ r. ⌜ now (s .exit) ≡ storedReadings (now (s .entry)) x ⌝ }
-{
-    store_counts(s, x);
-    store_codes(s, x);
-    store_halves(s, BANK_1, x.remote[0]);
-    store_halves(s, BANK_2, x.remote[1]);
-}
-
 // ---- Real-time bits, status, marks and OVT, from the readings stored
 
 struct Judged {
@@ -405,42 +286,6 @@ fn set_status(s: &mut [u8], l: Latches) -> Latches
 }
 
 // ---- The sample
-
-// Outside -256 to 255 half degrees.
-fn far(halves: i16) -> bool
-    ensures { λ r. ⌜ r ≡ isFar halves ⌝ }
-{
-    let code = half_code(halves);
-    match code {
-        HalfCode::Code { high: _, low: _ } => false,
-        HalfCode::OutOfRange => true,
-    }
-}
-
-fn stopped(configuration: u8) -> bool
-    ensures { λ r. ⌜ r ≡ isStopped configuration ⌝ }
-{
-    if !is_on(configuration, Bit::B0) {
-        return true;
-    }
-    is_on(configuration, Bit::B3)
-}
-
-fn answer_to(s: &[u8], x: Sample) -> u8
-    requires { ⌜ length (now s) ≡ cells ⌝ }
-    ensures { λ r. ⌜ r ≡ sampleAnswer (now (s .entry)) x ⌝ }
-{
-    if far(x.remote[0]) {
-        return BAD_TEMPERATURE;
-    }
-    if far(x.remote[1]) {
-        return BAD_TEMPERATURE;
-    }
-    if stopped(s[CONFIGURATION]) {
-        return STOPPED;
-    }
-    ACCEPTED
-}
 
 // A sample in place. Refused as 3 or 4 it leaves registers and latches; a slice that is not of 112 cells is refused as 8.
 pub fn sample_in(s: &mut [u8], l: Latches, x: Sample) -> Wrote

@@ -11,7 +11,8 @@ use Rattle.bits.specs.Bits.{choose}
 use Rattle.analog.specs.Temperature.{half9, holds}
 use Rattle.event.specs.declared.Sample.{Sample}
 use Rattle.w83782d_bus.specs.Bus.{State}
-use Rattle.w83782d_sample.specs.Sample.{halvesOf, isFar, sampleAnswer, sampleOf}
+use Rattle.w83782d_store.specs.Stored.{halvesOf, isFar, sampleAnswer}
+use Rattle.w83782d_sample.specs.Sample.{sampleOf}
 use Rattle.w83782d_sample_laws.specs.Claims.{isBeyond, isStandby, Refused}
 use Rattle.w83782d_sample_laws.proofs.Stores.{sample-answer, refused-state}
 

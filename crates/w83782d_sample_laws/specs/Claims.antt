@@ -20,7 +20,8 @@ use Rattle.event.specs.declared.Sample.{Sample}
 use Rattle.w83782d_map.specs.Map.{cells, at, bankAt, indexAt, configuration, interruptStatus1, interruptStatus2, realTimeStatus2}
 use Rattle.w83782d_map.specs.Registers.{shownOf}
 use Rattle.w83782d_bus.specs.Bus.{State, Written, writeOf}
-use Rattle.w83782d_sample.specs.Sample.{Source, firstByte, secondByte, voltage, fanCount, sensor1Value, highLimit, lowLimit, fanLimit, sensor1Over, sensor1Hysteresis, bankCell, ovtProperty, realTimeStatus1, voltageOf, halvesOf, countOf, statusMode, outputMode, markOf, remoteOf, isStopped, sampleOf}
+use Rattle.w83782d_store.specs.Stored.{voltage, fanCount, sensor1Value, bankCell, voltageOf, halvesOf, countOf, isStopped}
+use Rattle.w83782d_sample.specs.Sample.{Source, firstByte, secondByte, highLimit, lowLimit, fanLimit, sensor1Over, sensor1Hysteresis, ovtProperty, realTimeStatus1, statusMode, outputMode, markOf, remoteOf, sampleOf}
 use Rattle.w83782d_sample.specs.Sample.Source.{rail, sensor, fan, chassis}
 use Rattle.w83782d_readings.specs.Outputs.{smiMask1, smiMask2, smiOf}
 

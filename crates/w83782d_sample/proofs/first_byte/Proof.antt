@@ -1,4 +1,5 @@
 use borrow.Author.Needs.{needs}
+use Rattle.w83782d_sample.proofs.Rules.{first-packed}
 use Rattle.w83782d_sample.proofs.first_byte.Statement.{statement}
 use Rattle.w83782d_sample.proofs.first_byte.Tie as tie
 
@@ -24,7 +25,7 @@ pack-requires : tie.Need-pack-requires
 pack-requires c κs = search needs
 
 returns : tie.Need-returns
-returns c = cc
+returns c = search (needs, first-packed)
 
 pub first-byte-spec : {M : Type 1} → statement M
 first-byte-spec =

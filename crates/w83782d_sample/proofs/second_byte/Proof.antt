@@ -1,4 +1,5 @@
 use borrow.Author.Needs.{needs}
+use Rattle.w83782d_sample.proofs.Rules.{second-packed}
 use Rattle.w83782d_sample.proofs.second_byte.Statement.{statement}
 use Rattle.w83782d_sample.proofs.second_byte.Tie as tie
 
@@ -18,7 +19,7 @@ pack-requires : tie.Need-pack-requires
 pack-requires c κs = search needs
 
 returns : tie.Need-returns
-returns c = cc
+returns c = search (needs, second-packed)
 
 pub second-byte-spec : {M : Type 1} → statement M
 second-byte-spec =

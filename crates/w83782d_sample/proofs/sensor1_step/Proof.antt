@@ -1,5 +1,5 @@
 use borrow.Author.Needs.{needs}
-use Rattle.w83782d_sample.specs.Parts.{sensor1Step}
+use Rattle.w83782d_sample.proofs.Rules.{sensor1-stepped}
 use Rattle.w83782d_sample.proofs.sensor1_step.Statement.{statement}
 use Rattle.w83782d_sample.proofs.sensor1_step.Tie as tie
 
@@ -16,8 +16,7 @@ status-step-requires : tie.Need-status-step-requires
 status-step-requires c κs = search needs
 
 returns : tie.Need-returns
-unfolding sensor1Step
-returns c = cc
+returns c = search (needs, sensor1-stepped)
 
 pub sensor1-step-spec : {M : Type 1} → statement M
 sensor1-step-spec =

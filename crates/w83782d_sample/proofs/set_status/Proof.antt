@@ -1,5 +1,5 @@
 use borrow.Author.Needs.{needs}
-use Rattle.w83782d_sample.specs.Sample.{judgedRegisters}
+use Rattle.w83782d_sample.proofs.Rules.{status-set}
 use Rattle.w83782d_sample.proofs.set_status.Statement.{statement}
 use Rattle.w83782d_sample.proofs.set_status.Tie as tie
 
@@ -28,8 +28,7 @@ same-length : tie.Need-same-length
 same-length c = search needs
 
 returns : tie.Need-returns
-unfolding judgedRegisters
-returns c = (c .before .before .before .before .before .judge .ensures .latches, cc)
+returns c = status-set _ _ _ (c .before .before .before .before .before .judge .ensures)
 
 pub set-status-spec : {M : Type 1} → statement M
 set-status-spec =

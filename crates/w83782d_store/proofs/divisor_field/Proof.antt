@@ -1,7 +1,7 @@
 use borrow.Author.Needs.{needs}
-use Rattle.w83782d_sample.proofs.Rules.{places-1, places-2, places-3}
-use Rattle.w83782d_sample.proofs.divisor_field.Statement.{statement}
-use Rattle.w83782d_sample.proofs.divisor_field.Tie as tie
+use Rattle.w83782d_store.proofs.Rules.{places-1, places-2, places-3}
+use Rattle.w83782d_store.proofs.divisor_field.Statement.{statement}
+use Rattle.w83782d_store.proofs.divisor_field.Tie as tie
 
 field-requires : tie.Need-field-requires
 field-requires c κs = search needs

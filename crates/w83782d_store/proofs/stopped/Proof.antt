@@ -1,7 +1,7 @@
 use borrow.Author.Needs.{needs}
-use Rattle.w83782d_sample.proofs.Rules.{not-monitoring, bit-3}
-use Rattle.w83782d_sample.proofs.stopped.Statement.{statement}
-use Rattle.w83782d_sample.proofs.stopped.Tie as tie
+use Rattle.w83782d_store.proofs.Rules.{not-monitoring, bit-3}
+use Rattle.w83782d_store.proofs.stopped.Statement.{statement}
+use Rattle.w83782d_store.proofs.stopped.Tie as tie
 
 is-on-requires : tie.Need-is-on-requires
 is-on-requires c κs = search needs

@@ -4,9 +4,9 @@ use mir.Syntax.{w16}
 use mir.Val.{SFits}
 use mir.ValLaws.{toZ-ofZ}
 use Rattle.analog.specs.Temperature.{halfCodeOf}
-use Rattle.w83782d_sample.proofs.Rules.{near, beyond}
-use Rattle.w83782d_sample.proofs.far.Statement.{statement}
-use Rattle.w83782d_sample.proofs.far.Tie as tie
+use Rattle.w83782d_store.proofs.Rules.{near, beyond}
+use Rattle.w83782d_store.proofs.far.Statement.{statement}
+use Rattle.w83782d_store.proofs.far.Tie as tie
 
 half-code-requires : tie.Need-half-code-requires
 half-code-requires c κs = search needs

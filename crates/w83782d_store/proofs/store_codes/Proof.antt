@@ -5,9 +5,9 @@ use mir.Val.{SFits}
 use mir.ValLaws.{toZ-ofZ}
 use Rattle.analog.specs.Temperature.{half8, codeOf}
 use lib.ListN.{length-set}
-use Rattle.w83782d_sample.specs.Parts.{withCodes}
-use Rattle.w83782d_sample.proofs.store_codes.Statement.{statement}
-use Rattle.w83782d_sample.proofs.store_codes.Tie as tie
+use Rattle.w83782d_store.specs.Parts.{withCodes}
+use Rattle.w83782d_store.proofs.store_codes.Statement.{statement}
+use Rattle.w83782d_store.proofs.store_codes.Tie as tie
 
 element-copy-out-s : tie.Need-element-copy-out-s
 element-copy-out-s c = search needs

@@ -1,8 +1,8 @@
 use borrow.Author.Needs.{needs}
-use Rattle.w83782d_sample.proofs.Rules.{counts-stored}
+use Rattle.w83782d_store.proofs.Rules.{counts-stored}
 use lib.ListN.{length-set}
-use Rattle.w83782d_sample.proofs.store_counts.Statement.{statement}
-use Rattle.w83782d_sample.proofs.store_counts.Tie as tie
+use Rattle.w83782d_store.proofs.store_counts.Statement.{statement}
+use Rattle.w83782d_store.proofs.store_counts.Tie as tie
 
 element-copy-out-a : tie.Need-element-copy-out-a
 element-copy-out-a c = search needs

@@ -4,11 +4,11 @@ use mir.Syntax.{w16}
 use mir.Val.{SFits}
 use mir.ValLaws.{toZ-ofZ}
 use Rattle.analog.specs.Temperature.{halfCodeOf}
-use Rattle.w83782d_sample.proofs.Rules.{halves-stored, halves-none}
+use Rattle.w83782d_store.proofs.Rules.{halves-stored, halves-none}
 use native.Mathlib.Omega.{arith}
 use lib.ListN.{length-set}
-use Rattle.w83782d_sample.proofs.store_halves.Statement.{statement}
-use Rattle.w83782d_sample.proofs.store_halves.Tie as tie
+use Rattle.w83782d_store.proofs.store_halves.Statement.{statement}
+use Rattle.w83782d_store.proofs.store_halves.Tie as tie
 
 half-code-requires : tie.Need-half-code-requires
 half-code-requires c κs = search needs

@@ -1,7 +1,7 @@
 use borrow.Author.Needs.{needs}
-use Rattle.w83782d_sample.proofs.Rules.{counted}
-use Rattle.w83782d_sample.proofs.count.Statement.{statement}
-use Rattle.w83782d_sample.proofs.count.Tie as tie
+use Rattle.w83782d_store.proofs.Rules.{counted}
+use Rattle.w83782d_store.proofs.count.Statement.{statement}
+use Rattle.w83782d_store.proofs.count.Tie as tie
 
 divisor-field-requires : tie.Need-divisor-field-requires
 divisor-field-requires c κs = search needs

@@ -1,45 +1,33 @@
 -- The claim of specs/Alarm over every list of calls: crate `alarm` has it from what each call keeps and sets.
 -- Assumes nothing.
 use mathlib.Core.Path.{_≡_, refl, sym, ap, subst, _∙_}
-use mathlib.Core.Bool.{Bool, true, false, _||_}
-use mathlib.Core.List.{List}
+use mathlib.Core.Bool.{false}
 use mathlib.Core.Logic.{_≢_}
-use Prim.Native.Nat.{ℕ, _*_, _<_, _≤_}
+use Prim.Native.Nat.{ℕ, _<_, _≤_}
 use native.Mathlib.Decide.{ℕ-discrete}
 use native.Mathlib.Omega.{arith}
-use borrow.Author.Tests.{eq-eqb, ne-eqb, le-ltb, eqb-true, eqb-false, ltb-false}
-use lib.Dec.{eqb, ltb}
-use lib.ListN.{length, getD}
-use Rattle.bits.specs.Bits.{choose, bit, changes}
-use Rattle.bits.proofs.BitLaws.{choose-ind}
-use Rattle.bits.proofs.FieldLaws.{or-left, or-right}
-use Rattle.fan.specs.Count.{perMinute, exponentOf, valueOf, fromBits}
-use Rattle.fan.specs.Divisors.{divisorAt}
-use Rattle.fan.specs.Plan.{IsPlan, IsPlanned, answerFor, planAnswer}
+use borrow.Author.Tests.{eq-eqb, ne-eqb, le-ltb, eqb-true}
+use lib.ListN.{length}
+use Rattle.fan.specs.Count.{perMinute, valueOf}
 use Rattle.fan.specs.Search.{planOf}
 use Rattle.fan.specs.declared.Divisor.{Divisor}
-use Rattle.fan.specs.declared.Planned.{Planned}
-use Rattle.fan.specs.declared.Planned.the-variants.{Plan, Refused}
-use Rattle.fan.proofs.Divisors.{from-exponent, value-is}
-use Rattle.fan.proofs.Planning.{plan-of-is, plans-hold}
-use Rattle.alarm.specs.Alarm.{Force, none, plan, Laws, Everywhere}
+use Rattle.fan.specs.declared.Planned.the-variants.{Plan}
+use Rattle.fan.proofs.Divisors.{value-is}
+use Rattle.fan.proofs.Planning.{plans-hold}
+use Rattle.alarm.specs.Alarm.{Force, none, plan, Laws}
 use Rattle.alarm.specs.Alarm as alarm
 use Rattle.alarm.proofs.Lists.{lists}
-use Rattle.event.specs.declared.Sample.{Sample}
-use Rattle.w83782d_bus.specs.Map.{cells}
-use Rattle.w83782d_bus.specs.Bus.{Written, written, state}
+use Rattle.w83782d_map.specs.Map.{cells}
+use Rattle.w83782d_bus.specs.Bus.{Written, state}
 use Rattle.w83782d_bus_laws.proofs.Reached as reached
-use Rattle.w83782d_sample.specs.Sample.{fanCount, fanLimit, divisorPlaces, divisorOf}
-use Rattle.w83782d_sample_laws.specs.Claims.{fanCell, fanBit}
 use Rattle.w83782d_sample_laws.proofs.Stores.{frame, refused-state}
-use Rattle.w83782d_plan.specs.Plan as Setting
 use Rattle.w83782d_plan.proofs.Cases.{set-view, refused-plan}
 use Rattle.w83782d_plan.proofs.Settings.{put, put-length, put-limit, put-bits, other-limit, other-bits}
 use Rattle.w83782d_plan.proofs.Proved.{is-plan, plan-claims}
 use Rattle.w83782d.specs.declared.Monitor.{Monitor}
-use Rattle.w83782d.specs.Monitor.{stateOf, monitorOf, setPlanOf, sampleOf}
-use Rattle.w83782d.specs.Alarm.{Call, write, read, sample, chassis, setPlan, answerTo, Set, setFor, watched, Whole, SetsPlan, Said, AlarmRings}
-use Rattle.w83782d.proofs.Standing.{Stands, SameCells, same-stands, read-cells, read-whole, sample-cells, write-whole, write-stands}
+use Rattle.w83782d.specs.Monitor.{stateOf, monitorOf, setPlanOf}
+use Rattle.w83782d.specs.Alarm.{Call, write, read, sample, chassis, setPlan, answerTo, Set, watched, Whole, SetsPlan, Said, AlarmRings}
+use Rattle.w83782d.proofs.Standing.{Stands, same-stands, read-cells, read-whole, sample-cells, write-whole, write-stands}
 use Rattle.w83782d.proofs.Ringing.{plan-rings, rings-where, rings-only}
 
 -- ---- a plan in force or none

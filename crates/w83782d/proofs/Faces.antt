@@ -1,15 +1,15 @@
 -- The methods by value from what the functions in place ensure.
 -- Assumes nothing.
-use mathlib.Core.Path.{_≡_, ap, refl}
+use mathlib.Core.Path.{_≡_, ap}
 use mathlib.Core.List.{List}
-use Prim.Native.Nat.{ℕ, _<_}
+use Prim.Native.Nat.{ℕ}
 use mathlib.Core.Bool.{false}
 use borrow.Author.Tests.{eq-eqb, ne-eqb}
 use lib.ListN.{length, getD}
 use Rattle.w83782d_map.specs.Map.{cells}
 use Rattle.w83782d_bus.specs.Bus as Bus
 use Rattle.w83782d_latches.specs.Effects.{powerOnLatches}
-use Rattle.w83782d_bus.specs.Bus.{state, powerOn, written, Written, Read, sized, sizedRead, wroteIn, seenIn}
+use Rattle.w83782d_bus.specs.Bus.{state, powerOn, written, Written, sized, sizedRead, wroteIn, seenIn}
 use Rattle.w83782d_latches.specs.declared.Latches.{Latches}
 use Rattle.w83782d_bus.specs.declared.Wrote.{Wrote}
 use Rattle.w83782d_bus.specs.declared.Seen.{Seen}
@@ -20,8 +20,6 @@ use Rattle.w83782d_replay.specs.Replay as Replay
 use Rattle.w83782d_sample.specs.Sample as Rule
 use Rattle.w83782d_plan.specs.Plan as Plan
 use Rattle.w83782d.specs.declared.Monitor.{Monitor}
-use Rattle.w83782d.specs.declared.Answered.{Answered}
-use Rattle.w83782d.specs.declared.Shown.{Shown}
 use Rattle.w83782d.specs.Monitor.{stateOf, monitorOf, answered, shown, powerOnOf, writeOf, readOf, sampleOf, setPlanOf, applyOf, ovtOf}
 
 abbrev pub monitor : List ℕ → Latches → Monitor

@@ -4,14 +4,14 @@ use mathlib.Core.Path.{_≡_, refl, sym, ap, _∙_}
 use mathlib.Core.Bool.{Bool, true, false, _&&_, _||_, true≢false}
 use mathlib.Core.List.{List, [], _∷_}
 use mathlib.Core.Logic.{_≢_}
-use Prim.Native.Nat.{ℕ, _+_, _-_, _<_, _≤_}
+use Prim.Native.Nat.{ℕ, _-_, _<_, _≤_}
 use native.Mathlib.Decide.{decLt}
 use native.Mathlib.Omega.{arith}
-use borrow.Author.Tests.{eq-eqb, ne-eqb, eqb-true, ltb-true, ltb-false, leb-true, leb-false, lt-leb, le-leb}
+use borrow.Author.Tests.{eq-eqb, ne-eqb, eqb-true, ltb-false}
 use lib.Dec.{eqb, ltb, leb, lit<}
 use lib.ListN.{length, getD, length-set}
 use lib.Seq.{getD-set-other}
-use Rattle.bits.specs.Bits.{choose, isOn, change, changes, digitsOf, gatherOf}
+use Rattle.bits.specs.Bits.{isOn, change, changes, digitsOf, gatherOf}
 use Rattle.bits.specs.Map.{among}
 use Rattle.bits.specs.declared.Place.{Place}
 use Rattle.bits.proofs.BitLaws.{choose-ind}
@@ -23,14 +23,16 @@ use Rattle.fan.specs.declared.Divisor.{Divisor}
 use Rattle.alarm.specs.Alarm.{differs, rewrites}
 use Rattle.alarm.proofs.Writes.{field-kept, cell-kept}
 use Rattle.event.specs.declared.Sample.{Sample}
-use Rattle.w83782d_bus.specs.Map.{cells, presentAt, at, bankAt, indexAt, configuration, chassisClear, interruptStatus1, interruptStatus2, writableAt, rows}
-use Rattle.w83782d_bus.specs.Bus.{State, state, cellOf, bankOf, reachOf, storedBits, writeAnswer, writtenRegisters, writtenLatches, resetRegisters, Written, written, readRegisters, Read}
+use Rattle.w83782d_map.specs.Map.{cells, configuration, presentAt, bankAt, indexAt, interruptStatus1, interruptStatus2, writableAt, rows}
+use Rattle.w83782d_bus.specs.Bus.{State, state, writtenRegisters, Written, written, readRegisters, Read}
+use Rattle.w83782d_map.specs.Registers.{cellOf, bankOf, reachOf, storedBits, resetRegisters, writeAnswer}
+use Rattle.w83782d_latches.specs.Effects.{writtenLatches}
 use Rattle.w83782d_bus.specs.Bus as Bus
-use Rattle.w83782d_bus.proofs.Cells.{answered-cell}
-use Rattle.w83782d_bus_laws.proofs.Reached.{write-answer}
+use Rattle.w83782d_map.proofs.Cells.{answered-cell}
 use Rattle.w83782d_bus_laws.proofs.Frames.{stored-byte, reset-count}
 use Rattle.w83782d_sample.specs.Sample as Rule
-use Rattle.w83782d_sample.specs.Sample.{fanLimit, divisorPlaces}
+use Rattle.w83782d_sample.specs.Sample.{fanLimit}
+use Rattle.w83782d_store.specs.Stored.{divisorPlaces}
 use Rattle.w83782d_sample_laws.specs.Claims.{touched}
 use Rattle.w83782d_sample_laws.proofs.Stores.{frame}
 use Rattle.w83782d_plan.specs.Plan.{settings}

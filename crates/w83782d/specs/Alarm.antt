@@ -15,8 +15,8 @@ use Rattle.fan.specs.declared.Planned.{Planned}
 use Rattle.fan.specs.declared.Planned.the-variants.{Plan, Refused}
 use Rattle.alarm.specs.Alarm.{Force, none, plan, Machine, Everywhere, rewrites}
 use Rattle.event.specs.declared.Sample.{Sample}
-use Rattle.w83782d_bus.specs.Map.{cells, at}
-use Rattle.w83782d_sample.specs.Sample as Rule
+use Rattle.w83782d_map.specs.Map.{cells, at}
+use Rattle.w83782d_store.specs.Stored as Stored
 use Rattle.w83782d_sample_laws.specs.Claims.{fanBit}
 use Rattle.w83782d_plan.specs.Plan.{settings}
 use Rattle.w83782d_plan.specs.Claims.{PlanSet}
@@ -87,7 +87,7 @@ realTimeBit m f = bit (readOf (writeOf m 0x4E 4 .monitor) (choose (eqb f 3) 0x5A
 
 -- "A sample carries for each fan an undivided count u"
 abbrev pub undividedOf : Sample → ℕ → ℕ
-undividedOf x f = getD (x .counts) (f - 1) Rule.none .0
+undividedOf x f = getD (x .counts) (f - 1) Stored.none .0
 
 -- "the two being set instead"
 abbrev pub withInstead : Monitor → ℕ → Divisor → ℕ → Monitor

@@ -1,20 +1,20 @@
 -- What each access leaves as it was: a store by the law on changes, a reset by its table, a read by its cases.
 -- Assumes nothing.
-use mathlib.Core.Path.{_≡_, _∙_, ap, ap₂, sym, refl}
-use mathlib.Core.Bool.{Bool, true, false, not, _&&_, _||_, false≢true, true≢false, and-false, and-true}
+use mathlib.Core.Path.{_≡_, _∙_, ap, sym, refl}
+use mathlib.Core.Bool.{Bool, true, false, not, _&&_, _||_, true≢false, and-false, and-true}
 use mathlib.Core.List.{List, [], _∷_}
-use mathlib.Core.Logic.{_≢_, _⊎_, inl, inr}
-use Prim.Native.Nat.{ℕ, zero, suc, _+_, _-_, _*_, _%_, _^_, _<_, _≤_, min, max}
+use mathlib.Core.Logic.{_≢_}
+use Prim.Native.Nat.{ℕ, zero, suc, _-_, _<_, max}
 use native.Mathlib.Nat.{mod-eq-of-lt}
 use native.Mathlib.Decide.{ℕ-discrete, decLt}
 use native.Mathlib.Omega.{arith}
-use borrow.Author.Tests.{lt-ltb, eq-eqb, ne-eqb, eqb-true, eqb-false}
-use lib.Bits.{bitAnd, bitOr, and-mask, and-zero-r, or-zero-r}
-use lib.Dec.{T, eqb, eqb→eq, ltb, ltb→lt, lit<}
+use borrow.Author.Tests.{eq-eqb, ne-eqb, eqb-true}
+use lib.Bits.{bitAnd, and-mask, and-zero-r, or-zero-r}
+use lib.Dec.{T, eqb, eqb→eq, ltb, ltb→lt}
 use lib.ListN.{length, getD, set, List·getD-eq-default}
 use lib.Seq.{getD-set-same, getD-set-other, set-getD, set-out}
 use Rattle.bits.specs.Bits.{bit, isOn, choose, mergeOf, change, changes}
-use Rattle.bits.proofs.BitLaws.{choose-ind, bit-lt, bit-on, bit-off, and-bit, or-bit, merge-kept, merge-given, merge-byte}
+use Rattle.bits.proofs.BitLaws.{choose-ind, bit-lt, bit-on, bit-off, and-bit, or-bit, merge-kept, merge-given}
 use Rattle.bits.proofs.FieldLaws.{and-left}
 use Rattle.bits.proofs.Every.{every-at, every-at2, same-tests}
 use Rattle.bits.proofs.Tables.{tabulate-length, tabulate-at}
@@ -22,12 +22,12 @@ use Rattle.sensor.specs.Sensor.{armed, releasedOf}
 use Rattle.sensor.specs.declared.Remote.{Remote}
 use Rattle.w83782d_latches.specs.declared.Latches.{Latches}
 use Rattle.w83782d_map.specs.Map.{cells, presentAt, writableAt, powerOnAt, keptAt, rows, configuration, interruptStatus1, interruptStatus2, chassisClear, vidFanDivisor, deviceId, bankSelect, vendorId, chipId, realTimeStatus2, remoteValue}
-use Rattle.w83782d_map.specs.Registers.{bankOf, cellOf, reachOf, writeAnswer, storedBits, isCommand, resetRegisters, withChassis, shownOf}
+use Rattle.w83782d_map.specs.Registers.{cellOf, reachOf, writeAnswer, storedBits, isCommand, resetRegisters, withChassis, shownOf}
 use Rattle.w83782d_latches.specs.Effects.{writtenLatches, readLatches, withReleased, isInterrupt, releases, openedLatches}
-use Rattle.w83782d_bus.specs.Bus.{State, state, writtenRegisters, writeOf, Written, readRegisters, readOf, Read, read}
+use Rattle.w83782d_bus.specs.Bus.{State, state, writtenRegisters, writeOf, readRegisters, readOf, Read, read}
 use Rattle.w83782d_map.proofs.Cells.{answered-cell, present-cell}
 use Rattle.w83782d_bus_laws.proofs.Reached.{write-answer, read-answer}
-use Rattle.w83782d_bus_laws.specs.Claims.{Whole, isOff, cellIn, remoteIn, shownIn, SameMarks, SameLatches, Stores, Shows, Stored, Cleared, Resets, Reset, Leaves, ReadLeaves, ShownBytes, hasRule, statusBit, OpenedClaims}
+use Rattle.w83782d_bus_laws.specs.Claims.{Whole, isOff, cellIn, remoteIn, shownIn, SameMarks, SameLatches, Stores, Shows, Stored, Cleared, Reset, ReadLeaves, ShownBytes, hasRule, OpenedClaims}
 
 -- each stored mask is a byte
 small : ℕ → Bool

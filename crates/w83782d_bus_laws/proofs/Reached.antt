@@ -2,10 +2,10 @@
 -- Assumes nothing.
 use mathlib.Core.Path.{_≡_, _∙_, ap, ap₂, sym, refl}
 use mathlib.Core.Bool.{Bool, true, false, not, _&&_, _||_, Bool·beq, false≢true}
-use mathlib.Core.List.{List, [], _∷_}
+use mathlib.Core.List.{List}
 use mathlib.Core.Logic.{_≢_, _⊎_, inl, inr}
-use Prim.Native.Nat.{ℕ, _+_, _-_, _*_, _%_, _^_, _<_, _≤_}
-use native.Mathlib.Nat.{mod-mod, mod-lt}
+use Prim.Native.Nat.{ℕ, _+_, _-_, _%_, _<_, _≤_}
+use native.Mathlib.Nat.{mod-mod}
 use native.Mathlib.Decide.{decLt}
 use native.Mathlib.Omega.{arith}
 use borrow.Author.Tests.{lt-ltb, le-ltb, le-leb, eqb-true}
@@ -13,14 +13,14 @@ use lib.Bits.{bitAnd, bitOr, and-mask, mask-lt, and-mod, or-mod, and-zero-r, or-
 use lib.Dec.{T, eqb, eqb→eq, ltb, lit<}
 use lib.ListN.{length, getD}
 use lib.Seq.{getD-set-same}
-use Rattle.bits.specs.Bits.{bit, choose, mergeOf, change, changes, isOn}
+use Rattle.bits.specs.Bits.{bit, choose, mergeOf, changes}
 use Rattle.bits.specs.Map.{among}
 use Rattle.bits.proofs.BitLaws.{choose-ind}
 use Rattle.bits.proofs.Every.{every-at2, beq-same}
 use Rattle.w83782d_map.specs.Map.{cells, presentAt, writableAt, rows, bankSelect}
 use Rattle.w83782d_map.specs.Registers.{cellOf, bankOf, reachOf, writeAnswer, storedBits}
 use Rattle.w83782d_bus.specs.Bus.{State, writtenRegisters, writeOf, Written, readOf, Read}
-use Rattle.w83782d_map.proofs.Cells.{present, present-rows, present-out, cell-alias, cell-any, cell-below, cell-above}
+use Rattle.w83782d_map.proofs.Cells.{present, present-rows, present-out, cell-alias, cell-any}
 use Rattle.w83782d_bus_laws.specs.Claims.{answers1, Answers, Refused, Alias, Unbanked, BankSelected, AbsentBank, isAbsent}
 
 -- ---- answers

@@ -13,11 +13,10 @@ use Rattle.bits.specs.Map.{any, bank, Span, span, among}
 use Rattle.sensor.specs.Sensor.{armed}
 use Rattle.sensor.specs.declared.Remote.{Remote}
 use Rattle.sensor.specs.declared.Mark.the-variants.{Armed}
-use Rattle.w83782d_latches.specs.declared.Latches.{Latches}
-use Rattle.w83782d_map.specs.Map.{cells, presentAt, writableAt, powerOnAt, keptAt, configuration, interruptStatus1, interruptStatus2, chassisClear, vidFanDivisor, deviceId, bankSelect, vendorId, chipId, realTimeStatus2, remoteValue}
+use Rattle.w83782d_map.specs.Map.{cells, presentAt, writableAt, powerOnAt, keptAt, configuration, interruptStatus1, interruptStatus2, chassisClear, vidFanDivisor, deviceId, bankSelect, vendorId, chipId, realTimeStatus2}
 use Rattle.w83782d_map.specs.Registers.{bankOf, reachOf, storedBits, isCommand, shownOf}
-use Rattle.w83782d_latches.specs.Effects.{latches, releases, openedLatches}
-use Rattle.w83782d_bus.specs.Bus.{State, state, writeOf, Written, readOf, Read}
+use Rattle.w83782d_latches.specs.Effects.{latches, releases}
+use Rattle.w83782d_bus.specs.Bus.{State, state, writeOf, readOf}
 
 -- ---- every state of the monitor: 112 cells, each a byte, and any latches
 pub record Whole (s : State) : Type 0 where

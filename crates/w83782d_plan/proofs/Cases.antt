@@ -1,7 +1,6 @@
 -- Each answer of setting a plan, and what it leaves.
 -- Assumes nothing.
-use mathlib.Core.Path.{_≡_, ap, refl, sym, _∙_}
-use mathlib.Core.Bool.{Bool, true, false, _||_}
+use mathlib.Core.Path.{_≡_, refl}
 use mathlib.Core.List.{List, [], _∷_}
 use mathlib.Core.Logic.{_≢_}
 use Prim.Native.Nat.{ℕ, _+_, _<_, _≤_}
@@ -9,21 +8,20 @@ use native.Mathlib.Omega.{arith}
 use borrow.Author.Tests.{eq-eqb, ne-eqb, lt-ltb, le-ltb, ltb-false}
 use lib.Dec.{ltb}
 use lib.ListN.{length}
-use Rattle.bits.specs.Bits.{change, changes, digitsOf, placesOf}
+use Rattle.bits.specs.Bits.{change, changes, placesOf}
 use Rattle.bits.specs.declared.Field.{Field}
 use Rattle.bits.proofs.BitLaws.{choose-ind}
 use Rattle.bits.proofs.FieldLaws.{or-left, or-right}
-use Rattle.fan.specs.Count.{exponentOf}
 use Rattle.fan.specs.Divisors.{withDivisor}
 use Rattle.fan.specs.Plan.{planAnswer}
 use Rattle.fan.specs.Search.{planOf}
 use Rattle.fan.specs.declared.Divisor.{Divisor}
 use Rattle.fan.specs.declared.Planned.{Planned}
 use Rattle.fan.specs.declared.Planned.the-variants.{Plan, Refused}
-use Rattle.w83782d_bus.specs.declared.Latches.{Latches}
-use Rattle.w83782d_bus.specs.Map.{cells}
+use Rattle.w83782d_latches.specs.declared.Latches.{Latches}
+use Rattle.w83782d_map.specs.Map.{cells}
 use Rattle.w83782d_bus.specs.Bus.{State, state, Written, written, sized}
-use Rattle.w83782d_sample.specs.Sample.{fanLimit, divisorPlaces}
+use Rattle.w83782d_store.specs.Stored.{divisorPlaces}
 use Rattle.w83782d_plan.specs.Plan.{settings, plannedRegisters, isNoFan, setPlanOf}
 
 -- the limit's cell, then the divisor's field

@@ -11,7 +11,8 @@ use Rattle.fan.specs.declared.Divisor.{Divisor}
 use Rattle.fan.specs.declared.Planned.{Planned}
 use Rattle.fan.specs.declared.Planned.the-variants.{Plan, Refused}
 use Rattle.w83782d_bus.specs.Bus.{State, state, Written, written}
-use Rattle.w83782d_sample.specs.Sample.{fanLimit, divisorPlaces}
+use Rattle.w83782d_sample.specs.Sample.{fanLimit}
+use Rattle.w83782d_store.specs.Stored.{divisorPlaces}
 
 -- "Setting it writes that fan's limit and three divisor bits, and nothing else"
 abbrev pub settings : ℕ → Divisor → ℕ → List Change

@@ -7,10 +7,10 @@ ghost use Rattle.w83782d_plan.specs.Plan.{plannedRegisters, setPlanOf};
 use bits::store;
 use fan::Planned;
 use fan::plan;
-use w83782d_bus::CELLS;
-use w83782d_bus::Latches;
 use w83782d_bus::Wrote;
-use w83782d_sample::divisor_field;
+use w83782d_latches::Latches;
+use w83782d_map::CELLS;
+use w83782d_store::divisor_field;
 
 // ---- Answer numbers
 

@@ -9,6 +9,7 @@
 //! Every state is allowed as a start, also one whose cells hold bits that no
 //! call could have put there. A refused call leaves the state unchanged.
 
+mod in_force;
 mod map;
 mod monitor;
 mod plan;
@@ -16,6 +17,7 @@ mod readings;
 mod record;
 mod sample;
 
+pub use in_force::{End, InForce, Plan};
 pub use map::{cell, find, Register, Row, ANY, CELLS, REGISTERS, ROWS};
 pub use monitor::{Mark, Monitor};
 pub use plan::{plan, u_of_speed};

@@ -5,77 +5,15 @@
 mod common;
 
 use common::{any_sample, any_state, fan_rings, Rng};
-use reference::Monitor;
-
-/// A plan as document 01 words it: d is 2 to the power k.
-#[derive(Clone, Copy, Debug, PartialEq)]
-struct Plan {
-    k: u8,
-    limit: u8,
-}
-
-impl Plan {
-    /// The plan for w rpm, worked out apart from the planner under test: with
-    /// one divisor the largest product not above K has L+1 = K/d, at most 255.
-    fn of(w: u32) -> Plan {
-        let allowed = 1_350_000 / w;
-        let mut best = Plan { k: 0, limit: 0 };
-        for k in 0..8 {
-            let factor = (allowed >> k).min(255);
-            if factor >= 1 && factor << k > best.product() {
-                best = Plan {
-                    k,
-                    limit: (factor - 1) as u8,
-                };
-            }
-        }
-        best
-    }
-
-    fn product(&self) -> u32 {
-        (u32::from(self.limit) + 1) << self.k
-    }
-}
-
-/// The plans in force on fans 1 to 3.
-struct InForce([Option<Plan>; 3]);
-
-impl InForce {
-    /// "A rewrite is an accepted write whose byte gives a bit of that fan's
-    /// limit or divisor another value than the plan's."
-    fn written(&mut self, index: u8, value: u8) {
-        // "A reset by 40h bit 7."
-        if index == 0x40 && value & 0x80 != 0 {
-            self.0 = [None; 3];
-        }
-        for fan in 0..3_u8 {
-            let Some(plan) = self.0[usize::from(fan)] else {
-                continue;
-            };
-            let low = plan.k & 3;
-            let top = plan.k >> 2;
-            let same = match (index, fan) {
-                (0x3B..=0x3D, _) if index - 0x3B == fan => value == plan.limit,
-                (0x7B..=0x7D, _) if index - 0x7B == fan => value == plan.limit,
-                (0x47, 0) => value >> 4 & 3 == low,
-                (0x47, 1) => value >> 6 == low,
-                (0x4B, 2) => value >> 6 == low,
-                (0x5D, _) => value >> (5 + fan) & 1 == top,
-                _ => true,
-            };
-            if !same {
-                self.0[usize::from(fan)] = None;
-            }
-        }
-    }
-}
+use reference::{plan, End, InForce, Monitor, Plan};
 
 #[derive(Default)]
 struct Tally {
     rang: [u32; 3],
     silent: [u32; 3],
-    rewrites: u32,
-    resets: u32,
+    rewrites: usize,
+    resets: usize,
+    next_plans: usize,
     kept_by_same_bits: u32,
     refused: u32,
     out_of_force: u32,
@@ -96,7 +34,7 @@ fn any_index(rng: &mut Rng) -> u8 {
 /// A value that often repeats the plan's bits, or starts samples again.
 fn any_value(rng: &mut Rng, index: u8, in_force: &InForce) -> u8 {
     let other = rng.byte();
-    let plan = |fan: usize| in_force.0[fan].unwrap_or(Plan { k: 0, limit: other });
+    let plan = |fan: usize| in_force.plans[fan].unwrap_or(Plan { k: 0, limit: other });
     match index {
         0x40 if rng.below(12) == 0 => other | 0x80,
         0x40 if rng.below(4) == 0 => other & 0x7F,
@@ -129,21 +67,20 @@ fn any_speed(rng: &mut Rng) -> u32 {
 
 fn one_list(rng: &mut Rng, start: Monitor, length: u32, tally: &mut Tally) {
     let mut m = start;
-    let mut in_force = InForce([None; 3]);
+    let mut in_force = InForce::default();
     for _ in 0..length {
         match rng.below(16) {
             0..=3 => {
                 let index = any_index(rng);
                 let value = any_value(rng, index, &in_force);
-                let before = in_force.0;
                 if m.write(index, value) == 0 {
-                    in_force.written(index, value);
+                    let any = in_force != InForce::default();
+                    let ends = in_force.written(index, value);
+                    let ended = |by| ends.iter().filter(|end| **end == Some(by)).count();
+                    tally.resets += ended(End::Reset);
+                    tally.rewrites += ended(End::Rewrite);
                     let touches = matches!(index, 0x3B..=0x3D | 0x7B..=0x7D | 0x47 | 0x4B | 0x5D);
-                    if index == 0x40 && value >= 0x80 {
-                        tally.resets += 1;
-                    } else if in_force.0 != before {
-                        tally.rewrites += 1;
-                    } else if touches && before.iter().any(Option::is_some) {
+                    if touches && any && ends == [None; 3] {
                         tally.kept_by_same_bits += 1;
                     }
                 } else {
@@ -159,7 +96,7 @@ fn one_list(rng: &mut Rng, start: Monitor, length: u32, tally: &mut Tally) {
                 let fan = rng.below(5) as u8;
                 let w = any_speed(rng);
                 match m.set_plan(fan, w) {
-                    0 => in_force.0[usize::from(fan) - 1] = Some(Plan::of(w)),
+                    0 => tally.next_plans += usize::from(in_force.planned(fan, w).is_some()),
                     _ => tally.refused += 1,
                 }
             }
@@ -171,7 +108,7 @@ fn one_list(rng: &mut Rng, start: Monitor, length: u32, tally: &mut Tally) {
             _ => {
                 let mut s = any_sample(rng);
                 for fan in 0..3 {
-                    if let (Some(plan), true) = (in_force.0[fan], rng.below(4) != 0) {
+                    if let (Some(plan), true) = (in_force.plans[fan], rng.below(4) != 0) {
                         // From two below the product to two above it.
                         let near = plan.product() + rng.below(5) as u32;
                         s.u[fan] = near.saturating_sub(2);
@@ -185,11 +122,11 @@ fn one_list(rng: &mut Rng, start: Monitor, length: u32, tally: &mut Tally) {
                     continue;
                 }
                 for fan in 0..3 {
-                    let Some(plan) = in_force.0[fan] else {
+                    let Some(plan) = in_force.plans[fan] else {
                         tally.out_of_force += 1;
                         continue;
                     };
-                    let expected = s.u[fan] >= plan.product();
+                    let expected = plan.rings(s.u[fan]);
                     let rang = fan_rings(&m, fan as u8 + 1);
                     assert_eq!(rang, expected, "fan {} u {} {plan:?}", fan + 1, s.u[fan]);
                     if rang {
@@ -222,6 +159,7 @@ fn a_plan_in_force_rings_exactly_from_its_product_on() {
     }
     assert!(tally.rewrites > 10_000, "{}", tally.rewrites);
     assert!(tally.resets > 500, "{}", tally.resets);
+    assert!(tally.next_plans > 10_000, "{}", tally.next_plans);
     assert!(tally.kept_by_same_bits > 10_000);
     assert!(tally.refused > 10_000, "{}", tally.refused);
     assert!(tally.out_of_force > 10_000, "{}", tally.out_of_force);
@@ -230,7 +168,9 @@ fn a_plan_in_force_rings_exactly_from_its_product_on() {
 #[test]
 fn the_same_bits_end_nothing_and_a_second_place_counts() {
     let plan = Plan { k: 5, limit: 77 };
-    let all = || InForce([Some(plan); 3]);
+    let all = || InForce {
+        plans: [Some(plan); 3],
+    };
     // k 5 is top bit 1 and low bits 01.
     for (index, value, ended) in [
         (0x3B, 77, [false, false, false]),
@@ -256,15 +196,28 @@ fn the_same_bits_end_nothing_and_a_second_place_counts() {
         let mut in_force = all();
         in_force.written(index, value);
         let expected = ended.map(|ended| if ended { None } else { Some(plan) });
-        assert_eq!(in_force.0, expected, "{index:02X}h {value:02X}h");
+        assert_eq!(in_force.plans, expected, "{index:02X}h {value:02X}h");
     }
 }
 
 #[test]
 fn a_plan_whose_bits_come_back_is_not_in_force_again() {
     let plan = Plan { k: 1, limit: 152 };
-    let mut in_force = InForce([Some(plan); 3]);
+    let mut in_force = InForce {
+        plans: [Some(plan); 3],
+    };
     in_force.written(0x3B, 0);
     in_force.written(0x3B, 152);
-    assert_eq!(in_force.0, [None, Some(plan), Some(plan)]);
+    assert_eq!(in_force.plans, [None, Some(plan), Some(plan)]);
+}
+
+/// The planner's search and the plan that is taken to be in force agree. A plan's
+/// product is at most 255 * 128; every K that some speed has is among these.
+#[test]
+fn the_plan_in_force_is_the_plan_that_was_found() {
+    for allowed in 1..=33_000 {
+        let w = 1_350_000 / allowed;
+        let Plan { k, limit } = Plan::of(w);
+        assert_eq!(plan(w), (0, 1 << k, limit), "{w} rpm");
+    }
 }

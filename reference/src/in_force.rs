@@ -1,0 +1,105 @@
+//! Plans in force, which demand 3 of document 01 speaks of. They follow from the
+//! calls and their answers alone: nothing here looks at a monitor, and plans are
+//! worked out apart from the planner.
+
+/// "A plan is a divisor d and a limit L from 0 to 254." d is 2 to the power k.
+#[derive(Clone, Copy, Debug, PartialEq, Eq)]
+pub struct Plan {
+    pub k: u8,
+    pub limit: u8,
+}
+
+impl Plan {
+    /// The plan for w rpm: with one divisor the largest product not above K has
+    /// L+1 = K/d, at most 255. That w is 1 to 1,350,000 is the caller's part.
+    pub fn of(w: u32) -> Plan {
+        let allowed = 1_350_000 / w;
+        let mut best = Plan { k: 0, limit: 0 };
+        for k in 0..8 {
+            let factor = (allowed >> k).min(255);
+            if factor >= 1 && factor << k > best.product() {
+                best = Plan {
+                    k,
+                    limit: (factor - 1) as u8,
+                };
+            }
+        }
+        best
+    }
+
+    /// "(L+1)d"
+    pub fn product(&self) -> u32 {
+        (u32::from(self.limit) + 1) << self.k
+    }
+
+    /// "It rings for u exactly when u >= (L+1)d."
+    pub fn rings(&self, u: u32) -> bool {
+        u >= self.product()
+    }
+}
+
+/// What ended a plan.
+#[derive(Clone, Copy, Debug, PartialEq, Eq)]
+pub enum End {
+    /// "A reset by 40h bit 7".
+    Reset,
+    /// "A rewrite".
+    Rewrite,
+    /// "The next accepted plan on that fan".
+    NextPlan,
+}
+
+/// The plans in force on fans 1 to 3; none where a list of calls starts. "A
+/// refused call ends nothing": only accepted calls are told.
+#[derive(Clone, Copy, Debug, Default, PartialEq, Eq)]
+pub struct InForce {
+    pub plans: [Option<Plan>; 3],
+}
+
+impl InForce {
+    /// A plan was set on fan 1 to 3, answered 0. Gives what it ended there.
+    pub fn planned(&mut self, fan: u8, rpm: u32) -> Option<End> {
+        let plan = &mut self.plans[usize::from(fan) - 1];
+        plan.replace(Plan::of(rpm)).map(|_| End::NextPlan)
+    }
+
+    /// A bus write was accepted. Gives what it ended on each fan.
+    pub fn written(&mut self, index: u8, value: u8) -> [Option<End>; 3] {
+        let mut ends = [None; 3];
+        for fan in 0..3 {
+            ends[fan] = self.plans[fan].and_then(|plan| end(fan as u8, plan, index, value));
+            if ends[fan].is_some() {
+                self.plans[fan] = None;
+            }
+        }
+        ends
+    }
+}
+
+/// How an accepted write ends a plan on a fan, 0 being fan 1.
+fn end(fan: u8, plan: Plan, index: u8, value: u8) -> Option<End> {
+    if index == 0x40 && value & 0x80 != 0 {
+        return Some(End::Reset);
+    }
+    if rewrites(fan, plan, index, value) {
+        return Some(End::Rewrite);
+    }
+    None
+}
+
+/// "A rewrite is an accepted write whose byte gives a bit of that fan's limit or
+/// divisor another value than the plan's." 5Dh is in bank 0 only, so that it was
+/// accepted is enough; 7Bh to 7Dh are 3Bh to 3Dh.
+fn rewrites(fan: u8, plan: Plan, index: u8, value: u8) -> bool {
+    let low = plan.k & 3;
+    let top = plan.k >> 2;
+    match (index, fan) {
+        (0x3B..=0x3D, _) if index - 0x3B == fan => value != plan.limit,
+        (0x7B..=0x7D, _) if index - 0x7B == fan => value != plan.limit,
+        (0x47, 0) => value >> 4 & 3 != low,
+        (0x47, 1) => value >> 6 != low,
+        (0x4B, 2) => value >> 6 != low,
+        (0x5D, _) => value >> (5 + fan) & 1 != top,
+        _ => false,
+    }
+}

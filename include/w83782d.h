@@ -144,6 +144,19 @@ uint8_t w83782d_sample(uint8_t *image, size_t n, const uint8_t *volts, size_t v,
                        int16_t t2, int16_t t3, uint32_t u1, uint32_t u2, uint32_t u3);
 
 /*
+ * Sets the plan of a fan alarm at a speed, as w83782d_plan gives it, on fan 1 to
+ * 3: writes that fan's count limit and its three divisor bits, and nothing else,
+ * whatever bank is selected and whether or not monitoring is stopped. Stored
+ * counts and real-time bits wait for the next sample. From then on an accepted
+ * sample sets the fan's real-time bit exactly when its undivided count is
+ * (limit + 1) * divisor or more, until the first of these: a reset by 40h bit 7,
+ * an accepted write that gives a bit of that fan's limit or divisor another value,
+ * the next accepted plan on that fan. Answers 0, 8 (n), 7 (fan) or 6 (speed); a
+ * refusal leaves every byte of the image.
+ */
+uint8_t w83782d_set_plan(uint8_t *image, size_t n, uint8_t fan, uint32_t rpm);
+
+/*
  * The event of a record, with what the call of that event does. Returns
  * answer * 256 + byte, the byte of an accepted bus read, else 0. The answer is 0,
  * 8 (n), what w83782d_decode answers (5 or 3) or what the event is refused with

@@ -1,10 +1,10 @@
 //! The hardware monitor W83782D for Rust firmware: a small safe face over the
 //! proved library.
 //!
-//! A [`Monitor`] answers bus accesses as the chip does, takes samples and shows
-//! alarms, outputs and readings. What the rules refuse is an `Err` with a
-//! [`Refusal`], and changes nothing. [`plan`], [`millivolts`] and [`pwm_parts`]
-//! need no monitor.
+//! A [`Monitor`] answers bus accesses as the chip does, takes samples, sets fan
+//! alarms and shows alarms, outputs and readings. What the rules refuse is an
+//! `Err` with a [`Refusal`], and changes nothing. [`plan`], [`millivolts`] and
+//! [`pwm_parts`] need no monitor.
 //!
 //! The proved code is the archive `libw83782d_c.a`, which `rt staticlib
 //! w83782d_c` makes for x86-64. It needs no other library; this crate needs only
@@ -146,6 +146,46 @@ impl Monitor {
         };
         refusal::accepted(answer)
     }
+
+    /// Sets the [`plan`] of a fan alarm at a speed on fan 1, 2 or 3: writes that
+    /// fan's count limit and its three divisor bits, and nothing else, whatever
+    /// bank is selected and whether or not monitoring is stopped. Stored counts and
+    /// real-time bits wait for the next sample. [`Refusal::NoChannel`] or
+    /// [`Refusal::BadSpeed`] leaves the monitor as it was.
+    ///
+    /// From then on an accepted sample sets the fan's real-time bit exactly when
+    /// its undivided count is (limit + 1) * divisor or more, until the first of
+    /// these: a reset by 40h bit 7, an accepted write that gives a bit of that
+    /// fan's limit or divisor another value, the next accepted plan on that fan.
+    ///
+    /// ```
+    /// use w83782d::{Monitor, Refusal, Sample};
+    ///
+    /// let mut monitor = Monitor::power_on();
+    /// // Divisor 2, limit 152.
+    /// monitor.set_plan(1, 4_400)?;
+    /// let mut sample = Sample {
+    ///     codes: [0; 7],
+    ///     sensor_1: 0,
+    ///     sensor_2: 0,
+    ///     sensor_3: 0,
+    ///     counts: [305, 0, 0],
+    /// };
+    /// monitor.sample(&sample)?;
+    /// assert_eq!(monitor.outputs().standing_alarms, 0);
+    /// sample.counts[0] = 306;
+    /// monitor.sample(&sample)?;
+    /// assert_eq!(monitor.outputs().standing_alarms, 1);
+    /// assert_eq!(monitor.set_plan(4, 4_400), Err(Refusal::NoChannel));
+    /// assert_eq!(monitor.set_plan(1, 0), Err(Refusal::BadSpeed));
+    /// # Ok::<(), Refusal>(())
+    /// ```
+    pub fn set_plan(&mut self, fan: u8, rpm: u32) -> Result<(), Refusal> {
+        // SAFETY: pointer and length are those of the image, which is lent for the call.
+        let answer =
+            unsafe { raw::w83782d_set_plan(self.image.as_mut_ptr(), IMAGE_SIZE, fan, rpm) };
+        refusal::accepted(answer)
+    }
 }
 
 /// How a fan alarm is set: the divisor and the count limit.
@@ -158,6 +198,7 @@ pub struct Plan {
 }
 
 /// The plan of a fan alarm at a speed, or [`Refusal::BadSpeed`].
+/// [`Monitor::set_plan`] sets it.
 ///
 /// ```
 /// use w83782d::{plan, Plan, Refusal};

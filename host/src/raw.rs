@@ -17,6 +17,7 @@ extern "C" {
         u2: u32,
         u3: u32,
     ) -> u8;
+    pub fn w83782d_set_plan(image: *mut u8, n: usize, fan: u8, rpm: u32) -> u8;
     pub fn w83782d_event(image: *mut u8, n: usize, record: *const u8, m: usize) -> u16;
     pub fn w83782d_replay(image: *mut u8, n: usize, log: *const u8, m: usize) -> u64;
     pub fn w83782d_outputs(image: *const u8, n: usize) -> u32;

@@ -4,6 +4,7 @@ use crate::boundary;
 use crate::calls::{agrees, Call, LIBRARY};
 use crate::events::record_of;
 use crate::image::{in_bank, near_power_on, power_on, random, Image, CHASSIS, LENGTH, SPARE};
+use crate::plans::{any_speed, ENDS_OF_SPEEDS};
 use crate::report::explain;
 use crate::rng::Rng;
 use crate::samples::near_sample;
@@ -72,7 +73,7 @@ fn power_on_and_chassis_opened_agree_from_any_image() {
     }
 }
 
-/// Answers 0, 1 and 2 in turn, with flag bytes that no call writes.
+/// Answers 1, 2, 1, 6, 7 and 0 in turn, with flag bytes that no call writes.
 #[test]
 fn accepted_calls_tidy_flags_and_refused_ones_keep_them() {
     let mut start = power_on();
@@ -85,6 +86,10 @@ fn accepted_calls_tidy_flags_and_refused_ones_keep_them() {
     assert_eq!(image, start);
     assert_eq!(boundary::read(&mut image, 0x1F), (1, 0));
     assert_eq!(image, start);
+    assert_eq!(boundary::set_plan(&mut image, 1, 0), 6);
+    assert_eq!(image, start);
+    assert_eq!(boundary::set_plan(&mut image, 0, 4_400), 7);
+    assert_eq!(image, start);
 
     assert_eq!(boundary::write(&mut image, 0x4E, 0x80), 0);
     assert_eq!(image[CHASSIS..SPARE], [1; SPARE - CHASSIS]);
@@ -95,7 +100,8 @@ fn accepted_calls_tidy_flags_and_refused_ones_keep_them() {
 /// Bytes on either side of a lent image, which no call may touch.
 const BESIDE: usize = 64;
 
-/// An image of another length is refused before index and register are judged.
+/// An image of another length is refused before index, register, fan and speed
+/// are judged.
 #[test]
 fn an_image_of_another_length_is_answered_8_and_kept() {
     for length in [0, 1, 111, 112, 120, 127, 129, 256, 4096] {
@@ -112,6 +118,9 @@ fn an_image_of_another_length_is_answered_8_and_kept() {
             assert_eq!(boundary::read(image, index), (8, 0));
             for value in [0x00, 0x80, 0xFF] {
                 assert_eq!(boundary::write(image, index, value), 8);
+            }
+            for rpm in ENDS_OF_SPEEDS {
+                assert_eq!(boundary::set_plan(image, index, rpm), 8);
             }
             assert_eq!(lent, start, "length {length}, index {index:02X}h");
         }
@@ -130,6 +139,7 @@ fn no_call_reaches_beyond_the_image() {
             boundary::read(image, index);
             boundary::write(image, index, rng.byte());
             boundary::chassis_opened(image);
+            boundary::set_plan(image, index % 5, any_speed(&mut rng));
             let record = record_of(&Event::Read { index });
             boundary::event(image, &record);
             boundary::replay(image, &[record, record].concat());

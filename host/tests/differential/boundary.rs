@@ -45,6 +45,11 @@ pub fn sample(image: &mut [u8], volts: &[u8], sample: &Sample) -> u8 {
     }
 }
 
+pub fn set_plan(image: &mut [u8], fan: u8, rpm: u32) -> u8 {
+    // SAFETY: pointer and length are those of the slice.
+    unsafe { raw::w83782d_set_plan(image.as_mut_ptr(), image.len(), fan, rpm) }
+}
+
 /// "answer * 256 + byte"
 pub fn event(image: &mut [u8], record: &[u8]) -> Answer {
     // SAFETY: each pointer and the length after it are those of a slice.

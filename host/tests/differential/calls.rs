@@ -19,6 +19,10 @@ pub enum Call {
     },
     ChassisOpened,
     Sample(Sample),
+    SetPlan {
+        fan: u8,
+        rpm: u32,
+    },
     /// A record, good or not, of any length.
     Event {
         record: Vec<u8>,
@@ -67,6 +71,7 @@ pub fn library(image: &mut Image, call: &Call) -> Answer {
         Call::Read { index } => boundary::read(image, *index),
         Call::ChassisOpened => (boundary::chassis_opened(image), 0),
         Call::Sample(sample) => (boundary::sample(image, &sample.codes, sample), 0),
+        Call::SetPlan { fan, rpm } => (boundary::set_plan(image, *fan, *rpm), 0),
         Call::Event { record } => boundary::event(image, record),
         Call::Replay { log } => boundary::replay(image, log),
     }
@@ -88,6 +93,7 @@ fn wrapper(image: &mut Image, call: &Call) -> Answer {
             Ok(0)
         }
         Call::Sample(sample) => monitor.sample(&wrapped(sample)).map(|()| 0),
+        Call::SetPlan { fan, rpm } => monitor.set_plan(*fan, *rpm).map(|()| 0),
         Call::Event { record } => monitor.apply(record),
         Call::Replay { log } => {
             let replay = monitor.replay(log);
@@ -133,6 +139,7 @@ impl Expected {
             Call::Read { index } => with_byte(self.monitor.read(*index)),
             Call::ChassisOpened => (self.monitor.chassis_opened(), 0),
             Call::Sample(sample) => (self.monitor.sample(sample), 0),
+            Call::SetPlan { fan, rpm } => (self.monitor.set_plan(*fan, *rpm), 0),
             Call::Event { record } => match decode(record) {
                 Ok(event) => with_byte(self.monitor.apply(&event)),
                 Err(refusal) => (refusal, 0),

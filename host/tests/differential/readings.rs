@@ -4,7 +4,7 @@ use crate::boundary;
 use crate::rng::Rng;
 
 /// "1,350,000 / w"
-const COUNTS_PER_MINUTE: u32 = 1_350_000;
+pub const COUNTS_PER_MINUTE: u32 = 1_350_000;
 
 fn hold_plan(rpm: u32) {
     let (answer, divisor, limit) = reference::plan(rpm);
@@ -21,22 +21,27 @@ fn hold_plan(rpm: u32) {
 }
 
 /// For every K = 1,350,000 / w rounded down, its smallest and largest w.
-#[test]
-fn both_ends_of_every_speed_class_are_planned_alike() {
-    let mut classes = 0;
+pub fn speed_classes() -> Vec<[u32; 2]> {
+    let mut classes = Vec::new();
     let mut smallest = 1;
     while smallest <= COUNTS_PER_MINUTE {
         let k = COUNTS_PER_MINUTE / smallest;
         let largest = COUNTS_PER_MINUTE / k;
         assert!(COUNTS_PER_MINUTE / largest == k && COUNTS_PER_MINUTE / (largest + 1) < k);
-        hold_plan(smallest);
-        hold_plan(largest);
-        classes += 1;
+        classes.push([smallest, largest]);
         smallest = largest + 1;
     }
     assert_eq!(smallest, COUNTS_PER_MINUTE + 1);
     // 1,161 squared is below 1,350,000 and 1,161 times 1,162 too.
-    assert_eq!(classes, 2 * 1_161);
+    assert_eq!(classes.len(), 2 * 1_161);
+    classes
+}
+
+#[test]
+fn both_ends_of_every_speed_class_are_planned_alike() {
+    for rpm in speed_classes().into_iter().flatten() {
+        hold_plan(rpm);
+    }
 }
 
 #[test]

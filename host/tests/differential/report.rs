@@ -129,6 +129,7 @@ fn in_words(call: &Call) -> String {
         Call::Read { index } => format!("read {index:02X}h"),
         Call::ChassisOpened => "chassis opened".into(),
         Call::Sample(sample) => format!("{sample:?}"),
+        Call::SetPlan { fan, rpm } => format!("plan {rpm} rpm on fan {fan}"),
         Call::Event { record } => format!("event {record:02X?}"),
         Call::Replay { log } => log
             .chunks(RECORD_LENGTH)

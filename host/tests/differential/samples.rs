@@ -86,14 +86,14 @@ fn hold(start: &Image, sample: Sample, origin: &str) {
 }
 
 /// Monitoring: 40h bit 0 at 1 and bit 3 at 0; the other bits stay.
-fn monitoring(mut image: Image) -> Image {
+pub fn monitoring(mut image: Image) -> Image {
     let configuration = &mut image[cell(0, 0x40)];
     *configuration = *configuration & !0x08 | 0x01;
     image
 }
 
 /// Nothing out of its limits in an image of `calm_limits`.
-const CALM: Sample = Sample {
+pub const CALM: Sample = Sample {
     codes: [0x40; 7],
     t1: 0,
     t2: 0,
@@ -101,7 +101,7 @@ const CALM: Sample = Sample {
     u: [64; 3],
 };
 
-fn calm_limits(mut image: Image) -> Image {
+pub fn calm_limits(mut image: Image) -> Image {
     for channel in 0..7 {
         image[cell(0, 0x2B) + 2 * channel] = 0xFF;
         image[cell(0, 0x2C) + 2 * channel] = 0x00;

@@ -3,6 +3,7 @@
 use crate::calls::{Call, Subject, LIBRARY, WRAPPER};
 use crate::events::{damaged, record_of};
 use crate::image::{near_power_on, power_on, random, Image};
+use crate::plans::any_plan;
 use crate::report::hold;
 use crate::rng::Rng;
 use crate::samples::{any_sample, near_sample, ANCHORS};
@@ -26,9 +27,11 @@ pub enum Aim {
     Aliases,
     /// Samples between writes of limits, modes, divisors and 40h.
     Samples,
+    /// Plans between writes of fan limits and divisors.
+    Plans,
 }
 
-pub const AIMS: [Aim; 7] = [
+pub const AIMS: [Aim; 8] = [
     Aim::Mixed,
     Aim::Anything,
     Aim::Banks,
@@ -36,6 +39,7 @@ pub const AIMS: [Aim; 7] = [
     Aim::Resets,
     Aim::Aliases,
     Aim::Samples,
+    Aim::Plans,
 ];
 
 /// Registers with a rule of their own: configuration, chassis clear, divisors,
@@ -47,6 +51,9 @@ const RULED: [u8; 6] = [0x40, 0x46, 0x47, 0x4B, 0x4E, 0x5D];
 const SAMPLED: [u8; 16] = [
     0x40, 0x41, 0x42, 0x39, 0x3A, 0x3A, 0x47, 0x4B, 0x4C, 0x5D, 0x50, 0x52, 0x53, 0x54, 0x55, 0x56,
 ];
+
+/// Registers of fan limits and divisors, by each index that reaches them.
+pub const PLANNED: [u8; 9] = [0x3B, 0x3C, 0x3D, 0x7B, 0x7C, 0x7D, 0x47, 0x4B, 0x5D];
 
 /// The calls of a seed.
 pub fn calls(aim: Aim, seed: u64, length: usize) -> Vec<Call> {
@@ -65,19 +72,24 @@ pub fn start(seed: u64) -> Image {
 }
 
 fn call(aim: Aim, rng: &mut Rng) -> Call {
+    let plans = match aim {
+        Aim::Plans => 20,
+        _ => 2,
+    };
     match rng.below(100) {
         0..=1 => rare(aim, rng),
         2 => Call::Replay { log: log(aim, rng) },
         3..=8 => Call::Event {
             record: record(aim, rng),
         },
+        choice if choice < 9 + plans => any_plan(rng),
         _ => event(aim, rng).into(),
     }
 }
 
 fn event(aim: Aim, rng: &mut Rng) -> Event {
     let samples = match aim {
-        Aim::Samples => 40,
+        Aim::Samples | Aim::Plans => 40,
         _ => 12,
     };
     match rng.below(100) {
@@ -173,12 +185,17 @@ impl Aim {
                 2 => listed,
                 _ => rng.pick(&SAMPLED),
             },
+            Aim::Plans => match rng.below(8) {
+                0 => rng.pick(&[0x40, 0x4E]),
+                1 => listed,
+                _ => rng.pick(&PLANNED),
+            },
         }
     }
 
     /// A byte to write to an index.
     pub fn value(self, index: u8, rng: &mut Rng) -> u8 {
-        let sampled = matches!(self, Aim::Samples);
+        let sampled = matches!(self, Aim::Samples | Aim::Plans);
         let reset_allowed = matches!(self, Aim::Resets) || rng.one_in(8);
         match index {
             // A reset wipes what the calls before it did, so it is rare.
@@ -214,15 +231,15 @@ fn hold_lists(subject: Subject, lists: u64, length: usize) -> u64 {
 /// Many starts: a short list sees flags and odd bits before a reset wipes them.
 #[test]
 fn short_lists_of_calls_agree_from_many_states() {
-    assert!(hold_lists(LIBRARY, 20_000, 50) >= 7_000_000);
+    assert!(hold_lists(LIBRARY, 20_000, 50) >= 8_000_000);
 }
 
 #[test]
 fn long_lists_of_calls_agree() {
-    assert!(hold_lists(LIBRARY, 3, 100_000) >= 2_100_000);
+    assert!(hold_lists(LIBRARY, 3, 100_000) >= 2_400_000);
 }
 
 #[test]
 fn the_wrapper_agrees_over_lists_of_calls() {
-    assert!(hold_lists(WRAPPER, 4_000, 50) >= 1_400_000);
+    assert!(hold_lists(WRAPPER, 4_000, 50) >= 1_600_000);
 }

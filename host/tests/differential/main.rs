@@ -10,6 +10,7 @@ mod boundary;
 mod calls;
 mod events;
 mod image;
+mod in_force;
 mod looks;
 mod plans;
 mod planted;

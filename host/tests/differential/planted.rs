@@ -4,8 +4,10 @@
 use crate::boundary::Answer;
 use crate::calls::{first_disagreement, library, Call, CarryOut, Look, Subject, LIBRARY};
 use crate::image::{power_on, Image, CHASSIS, SPARE};
+use crate::in_force::{self, aimed_list, breaks_a_plan};
 use crate::looks::{self, Looks};
 use crate::report::{explain, shrink};
+use crate::samples::with_divisor;
 use crate::sequences::{calls, start, AIMS};
 use reference::cell;
 
@@ -192,6 +194,106 @@ fn flags_tidied_by_empty_replay(image: &mut Image, call: &Call) -> Answer {
     answer
 }
 
+/// The fan of an accepted plan, 0 being fan 1, and its speed.
+fn planned(call: &Call, answer: Answer) -> Option<(usize, u32)> {
+    match call {
+        Call::SetPlan { fan, rpm } if answer.0 == 0 => Some((usize::from(*fan) - 1, *rpm)),
+        _ => None,
+    }
+}
+
+/// Only the bits of the planned fan are left in 47h.
+fn all_of_47h_stored_by_plan(image: &mut Image, call: &Call) -> Answer {
+    let answer = library(image, call);
+    if let Some((fan @ 0..=1, _)) = planned(call, answer) {
+        image[cell(0, 0x47)] &= [0x30, 0xC0][fan];
+    }
+    answer
+}
+
+fn top_bit_forgotten_by_plan(image: &mut Image, call: &Call) -> Answer {
+    let before = image[cell(0, 0x5D)];
+    let answer = library(image, call);
+    if planned(call, answer).is_some() {
+        image[cell(0, 0x5D)] = before;
+    }
+    answer
+}
+
+fn limit_of_the_wrong_fan(image: &mut Image, call: &Call) -> Answer {
+    let limit = |fan: usize| cell(0, 0x3B) + fan % 3;
+    let before = *image;
+    let answer = library(image, call);
+    if let Some((fan, _)) = planned(call, answer) {
+        image[limit(fan + 1)] = image[limit(fan)];
+        image[limit(fan)] = before[limit(fan)];
+    }
+    answer
+}
+
+fn real_time_bit_cleared_by_plan(image: &mut Image, call: &Call) -> Answer {
+    let answer = library(image, call);
+    if let Some((fan, _)) = planned(call, answer) {
+        let (index, bit) = [(0x59, 6), (0x59, 7), (0x5A, 3)][fan];
+        image[cell(4, index)] &= !(1 << bit);
+    }
+    answer
+}
+
+/// "Taking the smallest divisor with 255 d at least K."
+fn smallest_divisor_taken(image: &mut Image, call: &Call) -> Answer {
+    let answer = library(image, call);
+    if let Some((fan, rpm)) = planned(call, answer) {
+        let allowed = 1_350_000 / rpm;
+        let k = (0..7).find(|k| 255 << k >= allowed).unwrap_or(7);
+        *image = with_divisor(*image, fan, k);
+        image[cell(0, 0x3B) + fan] = ((allowed >> k).min(255) - 1) as u8;
+    }
+    answer
+}
+
+/// 5Dh of the bank that is selected.
+fn top_bit_banked(image: &mut Image, call: &Call) -> Answer {
+    let before = image[cell(0, 0x5D)];
+    let answer = library(image, call);
+    if planned(call, answer).is_some() && bank(image) != 0 {
+        image[cell(0, 0x5D)] = before;
+    }
+    answer
+}
+
+fn plan_refused_in_standby(image: &mut Image, call: &Call) -> Answer {
+    let standby = image[cell(0, 0x40)] & 0x01 == 0;
+    match call {
+        Call::SetPlan { .. } if standby => (4, 0),
+        _ => library(image, call),
+    }
+}
+
+fn speed_judged_before_fan(image: &mut Image, call: &Call) -> Answer {
+    match call {
+        Call::SetPlan { rpm, .. } if *rpm == 0 || *rpm > 1_350_000 => (6, 0),
+        _ => library(image, call),
+    }
+}
+
+fn odd_flags_kept_by_plan(image: &mut Image, call: &Call) -> Answer {
+    let before = *image;
+    let answer = library(image, call);
+    if planned(call, answer).is_some() {
+        image[CHASSIS..SPARE].copy_from_slice(&before[CHASSIS..SPARE]);
+    }
+    answer
+}
+
+fn limit_cleared_by_refused_plan(image: &mut Image, call: &Call) -> Answer {
+    let answer = library(image, call);
+    if let (Call::SetPlan { fan, .. }, 6) = (call, answer.0) {
+        image[cell(0, 0x3A + fan)] = 0;
+    }
+    answer
+}
+
 fn smi_dropped_by_stop(image: &Image) -> Looks {
     let mut looks = looks::library(image);
     if image[cell(0, 0x40)] & 0x01 == 0 {
@@ -224,7 +326,7 @@ fn half_degree_lost(image: &Image) -> Looks {
 
 #[test]
 fn every_planted_fault_is_found() {
-    let faults: [(&str, CarryOut); 21] = [
+    let faults: [(&str, CarryOut); 31] = [
         ("chassis_cleared_by_read", chassis_cleared_by_read),
         ("all_of_47h_stored", all_of_47h_stored),
         ("aliases_banked", aliases_banked),
@@ -249,6 +351,22 @@ fn every_planted_fault_is_found() {
         ("part_of_a_record_passed_over", part_of_a_record_passed_over),
         ("refused_record_counted", refused_record_counted),
         ("flags_tidied_by_empty_replay", flags_tidied_by_empty_replay),
+        ("all_of_47h_stored_by_plan", all_of_47h_stored_by_plan),
+        ("top_bit_forgotten_by_plan", top_bit_forgotten_by_plan),
+        ("limit_of_the_wrong_fan", limit_of_the_wrong_fan),
+        (
+            "real_time_bit_cleared_by_plan",
+            real_time_bit_cleared_by_plan,
+        ),
+        ("smallest_divisor_taken", smallest_divisor_taken),
+        ("top_bit_banked", top_bit_banked),
+        ("plan_refused_in_standby", plan_refused_in_standby),
+        ("speed_judged_before_fan", speed_judged_before_fan),
+        ("odd_flags_kept_by_plan", odd_flags_kept_by_plan),
+        (
+            "limit_cleared_by_refused_plan",
+            limit_cleared_by_refused_plan,
+        ),
     ];
     for (name, call) in faults {
         assert!(is_found(faulty(call)), "{name}");
@@ -262,6 +380,44 @@ fn every_planted_fault_is_found() {
     for (name, looks) in faults {
         assert!(is_found(Subject { looks, ..LIBRARY }), "{name}");
     }
+}
+
+/// What a plan in force says is found broken without the second program's state.
+#[test]
+fn a_planted_fault_breaks_a_plan_in_force() {
+    let faults: [(&str, CarryOut); 6] = [
+        ("all_of_47h_stored_by_plan", all_of_47h_stored_by_plan),
+        ("top_bit_forgotten_by_plan", top_bit_forgotten_by_plan),
+        ("limit_of_the_wrong_fan", limit_of_the_wrong_fan),
+        ("smallest_divisor_taken", smallest_divisor_taken),
+        ("top_bit_banked", top_bit_banked),
+        ("plan_refused_in_standby", plan_refused_in_standby),
+    ];
+    for (name, call) in faults {
+        let broken = (0..200).any(|seed| {
+            let (start, calls) = aimed_list(seed, 100);
+            breaks_a_plan(faulty(call), &start, &calls)
+        });
+        assert!(broken, "{name}");
+    }
+}
+
+/// The maintainer's accident: two plans and a sample.
+#[test]
+fn a_broken_plan_shrinks_to_the_calls_that_show_it() {
+    let (_, list) = aimed_list(7, 2_000);
+    let list = in_force::shrunk(faulty(all_of_47h_stored_by_plan), &power_on(), &list);
+    assert!(
+        matches!(
+            list[..],
+            [
+                Call::SetPlan { fan: 1 | 2, .. },
+                Call::SetPlan { fan: 1 | 2, .. },
+                Call::Sample(_)
+            ]
+        ),
+        "{list:?}"
+    );
 }
 
 fn faulty(call: CarryOut) -> Subject {
@@ -278,7 +434,8 @@ fn is_found(fault: Subject) -> bool {
 /// The calls that are left of a long list from power-on.
 fn shrunk(call: CarryOut) -> Vec<Call> {
     let list = calls(AIMS[0], 7, 20_000);
-    shrink(faulty(call), &power_on(), &list)
+    let fails = |calls: &[Call]| first_disagreement(faulty(call), &power_on(), calls);
+    shrink(&fails, &list)
 }
 
 #[test]

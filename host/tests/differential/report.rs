@@ -1,4 +1,4 @@
-//! A disagreement, made small and put into words.
+//! A failing list of calls, made small and put into words.
 
 use crate::calls::{first_disagreement, Call, Expected, Subject};
 use crate::image::{Image, LENGTH};
@@ -6,24 +6,28 @@ use crate::looks::Looks;
 use reference::{decode, RECORD_LENGTH};
 use std::fmt::Write;
 
+/// The place of the first call of a list that fails.
+type Fails<'a> = &'a dyn Fn(&[Call]) -> Option<usize>;
+
 /// Holds a list of calls to `reference`; `origin` says how to make it again.
 pub fn hold(subject: Subject, start: &Image, calls: &[Call], origin: &str) {
-    if first_disagreement(subject, start, calls).is_some() {
-        let shortest = shrink(subject, start, calls);
+    let fails = |calls: &[Call]| first_disagreement(subject, start, calls);
+    if fails(calls).is_some() {
+        let shortest = shrink(&fails, calls);
         panic!("{}", explain(subject, start, &shortest, origin));
     }
 }
 
-/// The calls up to the first that doesn't agree, and then without those that the
-/// disagreement doesn't need: large parts are tried first, single calls last. Then
-/// logs and records are made simpler.
-pub fn shrink(subject: Subject, start: &Image, calls: &[Call]) -> Vec<Call> {
-    let mut shown = prefix(subject, start, calls).expect("the calls disagree");
+/// The calls up to the first that fails, and then without those that the failure
+/// doesn't need: large parts are tried first, single calls last. Then logs and
+/// records are made simpler.
+pub fn shrink(fails: Fails, calls: &[Call]) -> Vec<Call> {
+    let mut shown = prefix(fails, calls).expect("the calls fail");
     let mut part = shown.len().div_ceil(2);
     loop {
-        match without_a_part(subject, start, &shown, part) {
+        match without_a_part(fails, &shown, part) {
             Some(fewer) => shown = fewer,
-            None if part == 1 => match with_a_simpler_call(subject, start, &shown) {
+            None if part == 1 => match with_a_simpler_call(fails, &shown) {
                 Some(simpler) => shown = simpler,
                 None => return shown,
             },
@@ -33,32 +37,27 @@ pub fn shrink(subject: Subject, start: &Image, calls: &[Call]) -> Vec<Call> {
     }
 }
 
-/// The shortest prefix that disagrees.
-fn prefix(subject: Subject, start: &Image, calls: &[Call]) -> Option<Vec<Call>> {
-    first_disagreement(subject, start, calls).map(|last| calls[..=last].to_vec())
+/// The shortest prefix that fails.
+fn prefix(fails: Fails, calls: &[Call]) -> Option<Vec<Call>> {
+    fails(calls).map(|last| calls[..=last].to_vec())
 }
 
-/// A shorter list that disagrees, with one part of so many calls left out.
-fn without_a_part(
-    subject: Subject,
-    start: &Image,
-    calls: &[Call],
-    part: usize,
-) -> Option<Vec<Call>> {
+/// A shorter list that fails, with one part of so many calls left out.
+fn without_a_part(fails: Fails, calls: &[Call], part: usize) -> Option<Vec<Call>> {
     (0..calls.len()).step_by(part).find_map(|from| {
         let to = calls.len().min(from + part);
         let fewer = [&calls[..from], &calls[to..]].concat();
-        prefix(subject, start, &fewer)
+        prefix(fails, &fewer)
     })
 }
 
-/// A list that disagrees, with one call in a simpler form.
-fn with_a_simpler_call(subject: Subject, start: &Image, calls: &[Call]) -> Option<Vec<Call>> {
+/// A list that fails, with one call in a simpler form.
+fn with_a_simpler_call(fails: Fails, calls: &[Call]) -> Option<Vec<Call>> {
     (0..calls.len()).find_map(|place| {
         simpler(&calls[place]).into_iter().find_map(|call| {
             let mut simpler = calls.to_vec();
             simpler[place] = call;
-            prefix(subject, start, &simpler)
+            prefix(fails, &simpler)
         })
     })
 }
@@ -122,7 +121,7 @@ fn tell_looks(text: &mut String, expected: Looks, found: Looks) {
     }
 }
 
-fn in_words(call: &Call) -> String {
+pub fn in_words(call: &Call) -> String {
     match call {
         Call::PowerOn => "power-on".into(),
         Call::Write { index, value } => format!("write {value:02X}h to {index:02X}h"),

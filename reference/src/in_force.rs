@@ -66,10 +66,10 @@ impl InForce {
     /// A bus write was accepted. Gives what it ended on each fan.
     pub fn written(&mut self, index: u8, value: u8) -> [Option<End>; 3] {
         let mut ends = [None; 3];
-        for fan in 0..3 {
-            ends[fan] = self.plans[fan].and_then(|plan| end(fan as u8, plan, index, value));
+        for (fan, plan) in self.plans.iter_mut().enumerate() {
+            ends[fan] = plan.and_then(|plan| end(fan as u8, plan, index, value));
             if ends[fan].is_some() {
-                self.plans[fan] = None;
+                *plan = None;
             }
         }
         ends

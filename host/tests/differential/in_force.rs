@@ -189,9 +189,12 @@ fn rings_as_due(subject: Subject, image: &Image, due: Due, seen: &mut Seen) -> b
         return true;
     }
     let found = ringing(subject, image);
-    for fan in 0..3 {
-        seen.rang[fan] += u64::from(due[fan] == Some(true));
-        seen.silent[fan] += u64::from(due[fan] == Some(false));
+    for (fan, bit) in due.into_iter().enumerate() {
+        match bit {
+            Some(true) => seen.rang[fan] += 1,
+            Some(false) => seen.silent[fan] += 1,
+            None => {}
+        }
     }
     (0..3).all(|fan| due[fan].unwrap_or(found[fan]) == found[fan])
 }

@@ -25,7 +25,7 @@ unfolding signedOf
 high-half h code l = sym (ap (λ (t : Bool). choose t (pos code) (negℤ (pos (2 * h - code)))) (le-ltb code h l))
 
 -- the upper half in the other form of a negative number
-upper : (h code : ℕ) → h ≤ code → code < 2 * h → signedOf h code ≡ negsuc (2 * h - 1 - code)
+pub upper : (h code : ℕ) → h ≤ code → code < 2 * h → signedOf h code ≡ negsuc (2 * h - 1 - code)
 upper h code l r =
     let e : 2 * h - code ≡ suc (2 * h - 1 - code) = omega arith in
     sym (high-half h code l) ∙ ap (λ (n : ℕ). negℤ (pos n)) e

@@ -3,9 +3,9 @@
 use event::Decoded;
 use event::Event;
 use event::Kind;
-use event::Sample;
 use fan::Undivided;
 use libc::STDOUT_FILENO;
+use samples::Sample;
 
 // A sample that no record can hold: it stands beside a write and is not looked at.
 fn unwritable() -> Sample {

@@ -15,7 +15,7 @@ use Rattle.w83782d_bus.specs.declared.Wrote.{Wrote}
 use Rattle.w83782d_bus.specs.declared.Seen.{Seen}
 use Rattle.sensor.specs.Sensor.{armed}
 use Rattle.event.specs.declared.Event.{Event}
-use Rattle.event.specs.declared.Sample.{Sample}
+use Rattle.samples.specs.declared.Sample.{Sample}
 use Rattle.w83782d_replay.specs.Replay as Replay
 use Rattle.w83782d_sample.specs.Sample as Rule
 use Rattle.w83782d_plan.specs.Plan as Plan

@@ -22,7 +22,7 @@ use Rattle.fan.specs.Plan.{IsPlan}
 use Rattle.fan.specs.declared.Divisor.{Divisor}
 use Rattle.alarm.specs.Alarm.{differs, rewrites}
 use Rattle.alarm.proofs.Writes.{field-kept, cell-kept}
-use Rattle.event.specs.declared.Sample.{Sample}
+use Rattle.samples.specs.declared.Sample.{Sample}
 use Rattle.w83782d_map.specs.Map.{cells, configuration, presentAt, bankAt, indexAt, interruptStatus1, interruptStatus2, writableAt, rows}
 use Rattle.w83782d_bus.specs.Bus.{State, state, writtenRegisters, Written, written, readRegisters, Read}
 use Rattle.w83782d_map.specs.Registers.{cellOf, bankOf, reachOf, storedBits, resetRegisters, writeAnswer}

@@ -14,7 +14,7 @@ use Rattle.fan.specs.declared.Divisor.{Divisor}
 use Rattle.fan.specs.declared.Planned.{Planned}
 use Rattle.fan.specs.declared.Planned.the-variants.{Plan, Refused}
 use Rattle.alarm.specs.Alarm.{Force, none, plan, Machine, Everywhere, rewrites}
-use Rattle.event.specs.declared.Sample.{Sample}
+use Rattle.samples.specs.declared.Sample.{Sample}
 use Rattle.w83782d_map.specs.Map.{cells, at}
 use Rattle.w83782d_store.specs.Stored as Stored
 use Rattle.w83782d_sample_laws.specs.Claims.{fanBit}

@@ -6,7 +6,7 @@ use lib.ListN.{getD}
 use Rattle.bits.specs.Bits.{choose}
 use Rattle.sensor.specs.Sensor.{armed}
 use Rattle.event.specs.declared.Event.{Event}
-use Rattle.event.specs.declared.Sample.{Sample}
+use Rattle.samples.specs.declared.Sample.{Sample}
 use Rattle.w83782d_sample.specs.Sample as Rule
 use Rattle.w83782d_replay.specs.Replay as Replay
 use Rattle.w83782d_plan.specs.Plan as Plan

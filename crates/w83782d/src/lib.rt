@@ -10,8 +10,8 @@ ghost use Rattle.w83782d.specs.Monitor.{stateOf, powerOnOf, writeOf, rea
 ghost use Rattle.w83782d.specs.Alarm.{AlarmRings};
 use analog::Reading;
 use event::Event;
-use event::Sample;
 use fan::Speed;
+use samples::Sample;
 use w83782d_bus::power_on_in;
 use w83782d_bus::read_in;
 use w83782d_bus::write_in;

@@ -15,7 +15,7 @@ use Rattle.sensor.specs.declared.Mode.the-variants.{Comparator, Interrupt}
 use Rattle.sensor.specs.declared.Status.{Status}
 use Rattle.sensor.specs.declared.Output.{Output}
 use Rattle.sensor.specs.declared.Remote.{Remote}
-use Rattle.event.specs.declared.Sample.{Sample}
+use Rattle.samples.specs.declared.Sample.{Sample}
 use Rattle.w83782d_latches.specs.declared.Latches.{Latches}
 use Rattle.w83782d_latches.specs.Effects.{latches}
 use Rattle.w83782d_map.specs.Map.{at, atBank, interruptStatus1, interruptStatus2, realTimeStatus2}

@@ -9,7 +9,7 @@ use lib.Dec.{eqb, ltb, lit<}
 use lib.IntN.{ℤ, pos, negsuc}
 use Rattle.bits.specs.Bits.{choose}
 use Rattle.analog.specs.Temperature.{half9, holds}
-use Rattle.event.specs.declared.Sample.{Sample}
+use Rattle.samples.specs.declared.Sample.{Sample}
 use Rattle.w83782d_bus.specs.Bus.{State}
 use Rattle.w83782d_store.specs.Stored.{halvesOf, isFar, sampleAnswer}
 use Rattle.w83782d_sample.specs.Sample.{sampleOf}

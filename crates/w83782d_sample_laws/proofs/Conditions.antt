@@ -20,7 +20,7 @@ use Rattle.analog.proofs.Complement.{twos-complement-holds, code-lt, half-in}
 use Rattle.sensor.specs.Sensor.{remote}
 use Rattle.sensor.specs.declared.Status.{Status}
 use Rattle.sensor.specs.declared.Remote.{Remote}
-use Rattle.event.specs.declared.Sample.{Sample}
+use Rattle.samples.specs.declared.Sample.{Sample}
 use Rattle.w83782d_latches.specs.declared.Latches.{Latches}
 use Rattle.w83782d_map.specs.Map.{cells, interruptStatus1, interruptStatus2, realTimeStatus2}
 use Rattle.w83782d_latches.specs.Effects.{latches}

@@ -1,6 +1,6 @@
 -- The claims of one sample, put together.
 -- Assumes nothing.
-use Rattle.event.specs.declared.Sample.{Sample}
+use Rattle.samples.specs.declared.Sample.{Sample}
 use Rattle.w83782d_bus.specs.Bus.{State}
 use Rattle.w83782d_sample_laws.specs.Claims.{Whole, SampleClaims}
 use Rattle.w83782d_sample_laws.proofs.Stores.{frame}

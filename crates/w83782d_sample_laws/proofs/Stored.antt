@@ -21,7 +21,7 @@ use Rattle.fan.specs.Count.{valueOf, storedOf, fromBits}
 use Rattle.fan.specs.Divisors.{divisorAt}
 use Rattle.fan.specs.declared.Divisor.{Divisor}
 use Rattle.sensor.specs.declared.Status.{Status}
-use Rattle.event.specs.declared.Sample.{Sample}
+use Rattle.samples.specs.declared.Sample.{Sample}
 use Rattle.w83782d_latches.specs.declared.Latches.{Latches}
 use Rattle.w83782d_map.specs.Map.{cells, bankAt, indexAt, configuration, interruptStatus1, interruptStatus2}
 use Rattle.w83782d_bus.specs.Bus.{State}

@@ -16,7 +16,7 @@ use Rattle.analog.specs.Temperature.{half8, half9, holds, signedOf, nineBits}
 use Rattle.sensor.specs.Sensor.{statusOf, outputOf}
 use Rattle.sensor.specs.declared.Status.{Status}
 use Rattle.sensor.specs.declared.Output.{Output}
-use Rattle.event.specs.declared.Sample.{Sample}
+use Rattle.samples.specs.declared.Sample.{Sample}
 use Rattle.w83782d_map.specs.Map.{cells, at, bankAt, indexAt, configuration, interruptStatus1, interruptStatus2, realTimeStatus2}
 use Rattle.w83782d_map.specs.Registers.{shownOf}
 use Rattle.w83782d_bus.specs.Bus.{State, Written, writeOf}

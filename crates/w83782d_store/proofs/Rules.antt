@@ -17,7 +17,7 @@ use Rattle.fan.specs.declared.Divisor.{Divisor}
 use Rattle.analog.specs.Temperature.{half8, half9, codeOf, holds, halfCodeOf, halfAnswer, halfHigh, halfLow}
 use Rattle.analog.specs.declared.HalfCode.{HalfCode}
 use Rattle.analog.specs.declared.HalfCode.the-variants.{Code, OutOfRange}
-use Rattle.event.specs.declared.Sample.{Sample}
+use Rattle.samples.specs.declared.Sample.{Sample}
 use Rattle.w83782d_map.specs.Map.{cells}
 use Rattle.w83782d_store.specs.Stored.{fanCount, divisorPlaces, divisorOf, halvesOf, countOf, storedReadings, isFar, isStopped, sampleAnswer}
 use Rattle.w83782d_store.specs.Parts.{fieldOf, withCounts, withCodes, withHalves, storedIn}

@@ -6,7 +6,7 @@ use Rattle.bits.specs.Bits.{choose}
 use Rattle.bits.specs.declared.Bit.{Bit}
 use Rattle.bits.specs.declared.Field.{Field}
 use Rattle.analog.specs.Temperature.{half8, codeOf, halfCodeOf, halfHigh, halfLow}
-use Rattle.event.specs.declared.Sample.{Sample}
+use Rattle.samples.specs.declared.Sample.{Sample}
 use Rattle.w83782d_map.specs.Map.{at}
 use Rattle.w83782d_map.specs.Registers.{fits}
 use Rattle.w83782d_store.specs.Stored.{place, sensor1Value, voltage, voltageOf, fanCount, countOf, rails, fans, puts, _≔_, storedReadings}

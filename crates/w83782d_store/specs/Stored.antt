@@ -14,7 +14,7 @@ use Rattle.fan.specs.Divisors.{divisorAt}
 use Rattle.fan.specs.declared.Divisor.{Divisor}
 use Rattle.fan.specs.declared.Undivided.{Undivided}
 use Rattle.analog.specs.Temperature.{half8, half9, codeOf, holds, halfCodeOf, halfHigh, halfLow}
-use Rattle.event.specs.declared.Sample.{Sample}
+use Rattle.samples.specs.declared.Sample.{Sample}
 use Rattle.w83782d_map.specs.Map.{at, atBank, configuration}
 
 -- ---- the cells of a rail, a sensor and a fan

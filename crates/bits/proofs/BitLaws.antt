@@ -123,3 +123,26 @@ pub merge-takes : MergeTakes
 merge-takes o m b j hm hj =
     choose-ind (λ (x : ℕ). bit (mergeOf o m b) j ≡ x) (isOn m j) (bit b j) (bit o j)
     (λ e. merge-given o m b j hm hj (bit-on m j e)) (λ e. merge-kept o m b j hm hj (bit-off m j e))
+
+-- ---- a byte is fixed by its eight bits
+from-bits : (n : ℕ) → n < 256
+    → n ≡ bit n 0 + 2 * bit n 1 + 4 * bit n 2 + 8 * bit n 3 + 16 * bit n 4 + 32 * bit n 5 + 64 * bit n 6 + 128 * bit n 7
+unfolding bit
+from-bits =
+    same-below 256 (λ n. n) (λ n. bit n 0 + 2 * bit n 1 + 4 * bit n 2 + 8 * bit n 3 + 16 * bit n 4 + 32 * bit n 5 + 64 * bit n 6 + 128 * bit n 7) tt
+
+pub same-byte : (a b : ℕ) → a < 256 → b < 256 → ((j : ℕ) → j < 8 → bit a j ≡ bit b j) → a ≡ b
+same-byte a b ha hb e =
+    omega (
+      arith,
+      from-bits a ha,
+      from-bits b hb,
+      e 0 (lit< tt),
+      e 1 (lit< tt),
+      e 2 (lit< tt),
+      e 3 (lit< tt),
+      e 4 (lit< tt),
+      e 5 (lit< tt),
+      e 6 (lit< tt),
+      e 7 (lit< tt),
+    )

@@ -2,32 +2,39 @@
 -- Assumes nothing.
 use mathlib.Core.Path.{_≡_, refl, sym, ap, subst, _∙_}
 use mathlib.Core.Bool.{false}
+use mathlib.Core.List.{List}
 use mathlib.Core.Logic.{_≢_}
 use Prim.Native.Nat.{ℕ, _<_, _≤_}
+use native.Mathlib.Nat.{mod-eq-of-lt}
 use native.Mathlib.Decide.{ℕ-discrete}
 use native.Mathlib.Omega.{arith}
 use borrow.Author.Tests.{eq-eqb, ne-eqb, le-ltb, eqb-true}
-use lib.ListN.{length}
-use Rattle.fan.specs.Count.{perMinute, valueOf}
+use lib.ListN.{length, getD}
+use Rattle.fan.specs.Count.{perMinute, exponentOf, valueOf, fromBits}
+use Rattle.fan.specs.Divisors.{divisorAt}
 use Rattle.fan.specs.Search.{planOf}
 use Rattle.fan.specs.declared.Divisor.{Divisor}
 use Rattle.fan.specs.declared.Planned.the-variants.{Plan}
-use Rattle.fan.proofs.Divisors.{value-is}
+use Rattle.fan.proofs.Divisors.{from-exponent, exponent-of-bits, value-is}
 use Rattle.fan.proofs.Planning.{plans-hold}
+use Rattle.bits.specs.Bits.{gatherOf}
+use Rattle.bits.specs.declared.Place.{Place}
+use Rattle.bits.proofs.BitLaws.{bit-lt}
 use Rattle.alarm.specs.Alarm.{Force, none, plan, Laws}
 use Rattle.alarm.specs.Alarm as alarm
 use Rattle.alarm.proofs.Lists.{lists}
 use Rattle.w83782d_map.specs.Map.{cells}
 use Rattle.w83782d_bus.specs.Bus.{Written, state}
 use Rattle.w83782d_bus_laws.proofs.Reached as reached
+use Rattle.w83782d_store.specs.Stored.{divisorPlaces, divisorOf}
 use Rattle.w83782d_sample_laws.proofs.Stores.{frame, refused-state}
 use Rattle.w83782d_plan.proofs.Cases.{set-view, refused-plan}
-use Rattle.w83782d_plan.proofs.Settings.{put, put-length, put-limit, put-bits, other-limit, other-bits}
+use Rattle.w83782d_plan.proofs.Settings.{places-ind, put, put-length, put-limit, put-bits, other-limit, other-bits}
 use Rattle.w83782d_plan.proofs.Proved.{is-plan, plan-claims}
 use Rattle.w83782d.specs.declared.Monitor.{Monitor}
-use Rattle.w83782d.specs.Monitor.{stateOf, monitorOf, setPlanOf}
-use Rattle.w83782d.specs.Alarm.{Call, write, read, sample, chassis, setPlan, answerTo, Set, watched, Whole, SetsPlan, Said, AlarmRings}
-use Rattle.w83782d.proofs.Standing.{Stands, same-stands, read-cells, read-whole, sample-cells, write-whole, write-stands}
+use Rattle.w83782d.specs.Monitor.{stateOf, monitorOf, writeOf, setPlanOf}
+use Rattle.w83782d.specs.Alarm.{HasPlan, Call, write, read, sample, chassis, setPlan, answerTo, Set, watched, Whole, SetsPlan, Said, AlarmRings}
+use Rattle.w83782d.proofs.Standing.{Stands, same-stands, read-cells, read-whole, sample-cells, write-whole, write-stands, write-agrees}
 use Rattle.w83782d.proofs.Ringing.{plan-rings, rings-where, rings-only}
 
 -- ---- a plan in force or none
@@ -127,11 +134,30 @@ module _ (f : ℕ) (h : 1 ≤ f) (h′ : f ≤ 3) where
         (eqb-true (setPlanOf m f w .answer) 0
         (plan-claims (stateOf m) f w k .answers .accepted ∙ simp (le-ltb f 1 h, le-ltb 3 f h′, ne-eqb w 0 (λ z. omega arith), le-ltb perMinute w j)))
 
+  -- the divisor is the three bits that are gathered
+  has-plan : (m : Monitor) (p : Set) → Stands f (m .registers) p → HasPlan f m p
+  unfolding divisorAt
+  has-plan m p s = record { limit = s .limit; divisor = ap fromBits (s .bits) ∙ from-exponent (p .divisor) }
+
+  bits-of : (rs : List ℕ) (d : Divisor) → divisorOf rs f ≡ d → gatherOf rs (divisorPlaces f) ≡ exponentOf d
+  unfolding divisorAt gatherOf
+  bits-of rs d e =
+      let n : gatherOf rs (divisorPlaces f) < 8 =
+      places-ind (λ (ps : List Place). gatherOf rs ps < 8) f
+      (omega (arith, bit-lt (getD rs 39 0) 4, bit-lt (getD rs 39 0) 5, bit-lt (getD rs 61 0) 5))
+      (omega (arith, bit-lt (getD rs 39 0) 6, bit-lt (getD rs 39 0) 7, bit-lt (getD rs 61 0) 6))
+      (omega (arith, bit-lt (getD rs 43 0) 6, bit-lt (getD rs 43 0) 7, bit-lt (getD rs 61 0) 7)) in
+      sym (mod-eq-of-lt n) ∙ sym (exponent-of-bits (gatherOf rs (divisorPlaces f))) ∙ ap exponentOf e
+
   said : (m : Monitor) (p : Force Set) (c : Call) → Whole m → alarm.Stands Stood m p → Said f m p c
   said m p (setPlan g w) k s = λ e i j. asked m k w i j
   said m none (sample x) k s = tt
   said m (plan p) (sample x) k s = λ a. plan-rings f h h′ m k x p s a
-  said m p (write i v) k s = tt
+  said m none (write i v) k s = tt
+  said m (plan p) (write i v) k s = λ a n. (
+    λ e. has-plan (writeOf m i v .monitor) p (write-stands f (stateOf m) i v p h′ s e),
+    λ g. write-agrees f (stateOf m) i v p h′ k (omega (arith, s .isPlan .limit)) a n (g .limit) (bits-of (writeOf m i v .monitor .registers) (p .divisor) (g .divisor)),
+  )
   said m p (read i) k s = tt
   said m p chassis k s = tt
 

@@ -4,14 +4,14 @@ use mathlib.Core.Path.{_≡_, refl, sym, ap, _∙_}
 use mathlib.Core.Bool.{Bool, true, false, _&&_, _||_, true≢false}
 use mathlib.Core.List.{List, [], _∷_}
 use mathlib.Core.Logic.{_≢_}
-use Prim.Native.Nat.{ℕ, _-_, _<_, _≤_}
+use Prim.Native.Nat.{ℕ, _+_, _-_, _<_, _≤_}
 use native.Mathlib.Decide.{decLt}
 use native.Mathlib.Omega.{arith}
-use borrow.Author.Tests.{eq-eqb, ne-eqb, eqb-true, ltb-false}
+use borrow.Author.Tests.{eq-eqb, ne-eqb, eqb-true, eqb-false, ltb-true, ltb-false, leb-false}
 use lib.Dec.{eqb, ltb, leb, lit<}
 use lib.ListN.{length, getD, length-set}
 use lib.Seq.{getD-set-other}
-use Rattle.bits.specs.Bits.{isOn, change, changes, digitsOf, gatherOf}
+use Rattle.bits.specs.Bits.{bit, isOn, change, changes, digitsOf, gatherOf}
 use Rattle.bits.specs.Map.{among}
 use Rattle.bits.specs.declared.Place.{Place}
 use Rattle.bits.proofs.BitLaws.{choose-ind}
@@ -21,7 +21,7 @@ use Rattle.fan.specs.Count.{exponentOf, valueOf}
 use Rattle.fan.specs.Plan.{IsPlan}
 use Rattle.fan.specs.declared.Divisor.{Divisor}
 use Rattle.alarm.specs.Alarm.{differs, rewrites}
-use Rattle.alarm.proofs.Writes.{field-kept, cell-kept}
+use Rattle.alarm.proofs.Writes.{field-kept, cell-kept, within, field-agrees, cell-agrees}
 use Rattle.samples.specs.declared.Sample.{Sample}
 use Rattle.w83782d_map.specs.Map.{cells, configuration, presentAt, bankAt, indexAt, interruptStatus1, interruptStatus2, writableAt, rows}
 use Rattle.w83782d_bus.specs.Bus.{State, state, writtenRegisters, Written, written, readRegisters, Read}
@@ -29,6 +29,7 @@ use Rattle.w83782d_map.specs.Registers.{cellOf, bankOf, reachOf, storedBits, re
 use Rattle.w83782d_latches.specs.Effects.{writtenLatches}
 use Rattle.w83782d_bus.specs.Bus as Bus
 use Rattle.w83782d_map.proofs.Cells.{answered-cell}
+use Rattle.w83782d_bus_laws.proofs.Reached.{write-answer}
 use Rattle.w83782d_bus_laws.proofs.Frames.{stored-byte, reset-count}
 use Rattle.w83782d_sample.specs.Sample as Rule
 use Rattle.w83782d_sample.specs.Sample.{fanLimit}
@@ -139,15 +140,17 @@ reset-index b i =
     (λ _. choose-ind (λ (c : ℕ). c ≡ 32 → i ≡ 0x40) (eqb b 2) _ _ (λ _ h. absurd (omega arith))
     (λ _. choose-ind (λ (c : ℕ). c ≡ 32 → i ≡ 0x40) (eqb b 4) _ _ (λ _ h. absurd (omega arith)) (λ _ h. absurd (omega arith)))))))))
 
+-- a write elsewhere is no rewrite
+none-at : (f : ℕ) (d : Divisor) (l k v : ℕ) → k ≢ fanLimit f → k ≢ 39 → k ≢ 43 → k ≢ 61 → rewrites (settings f d l) k v ≡ false
+unfolding digitsOf
+none-at f d l k v n p q r =
+    simp (ne-eqb k (fanLimit f) n)
+    (places-ind (λ (qs : List Place). rewrites (digitsOf qs (exponentOf d)) k v ≡ false) f (simp (ne-eqb k 39 p, ne-eqb k 61 r))
+    (simp (ne-eqb k 39 p, ne-eqb k 61 r)) (simp (ne-eqb k 43 q, ne-eqb k 61 r)))
+
 -- every setting lies below cell 64
 none-above : (f : ℕ) (d : Divisor) (l k v : ℕ) → f ≤ 3 → 64 ≤ k → rewrites (settings f d l) k v ≡ false
-unfolding digitsOf
-none-above f d l k v g h =
-    simp (ne-eqb k (fanLimit f) (λ e. omega arith))
-    (places-ind (λ (qs : List Place). rewrites (digitsOf qs (exponentOf d)) k v ≡ false) f
-    (simp (ne-eqb k 39 (λ e. omega arith), ne-eqb k 61 (λ e. omega arith)))
-    (simp (ne-eqb k 39 (λ e. omega arith), ne-eqb k 61 (λ e. omega arith)))
-    (simp (ne-eqb k 43 (λ e. omega arith), ne-eqb k 61 (λ e. omega arith))))
+none-above f d l k v g h = none-at f d l k v (λ e. omega arith) (λ e. omega arith) (λ e. omega arith) (λ e. omega arith)
 
 rewrites-there : (f : ℕ) (d : Divisor) (l b i v : ℕ) → f ≤ 3 → rewrites (settings f d l) (reached i) v ≡ false → rewrites (settings f d l) (cellOf b i) v ≡ false
 rewrites-there f d l b i v h n = go (decLt (cellOf b i) 64)
@@ -158,7 +161,7 @@ rewrites-there f d l b i v h n = go (decLt (cellOf b i) 64)
 
 -- ---- a write: refused, a reset, or a byte stored under the register's mask
 write-view : (P : Written → Type 0) (s : State) (i v : ℕ)
-    → P (written s (writeAnswer (reachOf (s .registers) i)))
+    → (writeAnswer (reachOf (s .registers) i) ≢ 0 → P (written s (writeAnswer (reachOf (s .registers) i))))
     → (writeAnswer (reachOf (s .registers) i) ≡ 0 → reachOf (s .registers) i ≡ configuration → isOn v 7 ≡ true
     → P (written (state (resetRegisters (s .registers)) (writtenLatches (s .latches) (reachOf (s .registers) i) v)) 0))
     → (writeAnswer (reachOf (s .registers) i) ≡ 0
@@ -173,11 +176,11 @@ write-view P s i v refused reset store =
     (eqb-true (reachOf (s .registers) i) configuration (and-left (eqb (reachOf (s .registers) i) configuration) (isOn v 7) e))
     (and-right (eqb (reachOf (s .registers) i) configuration) (isOn v 7) e))
     (λ _. store (eqb-true (writeAnswer (reachOf (s .registers) i)) 0 a)))
-    (λ _. refused)
+    (λ e. refused (eqb-false (writeAnswer (reachOf (s .registers) i)) 0 e))
 
 pub write-whole : (s : State) (i v : ℕ) → length (s .registers) ≡ cells → length (Bus.writeOf s i v .state .registers) ≡ cells
 write-whole s i v w =
-    write-view (λ (x : Written). length (x .state .registers) ≡ cells) s i v w (λ _ _ _. reset-count (s .registers))
+    write-view (λ (x : Written). length (x .state .registers) ≡ cells) s i v (λ _. w) (λ _ _ _. reset-count (s .registers))
     (λ _. changes-length (change (reachOf (s .registers) i) (storedBits (reachOf (s .registers) i)) v ∷ []) (s .registers) ∙ w)
 
 -- a limit is written whole
@@ -201,6 +204,10 @@ module _ (f : ℕ) (h : f ≤ 3) (rs : List ℕ) (p : Set) (g : Stands f rs p) (
         isPlan = g .isPlan;
       }
 
+both : (a b : Bool) → a ≡ true → b ≡ true → (a && b) ≡ true
+both true b e q = q
+both false b e q = e
+
 pub write-stands : (f : ℕ) (s : State) (i v : ℕ) (p : Set) → f ≤ 3 → Stands f (s .registers) p
     → (isReset i v || rewrites (settings f (p .divisor) (p .limit)) (reached i) v) ≡ false → Stands f (Bus.writeOf s i v .state .registers) p
 write-stands f s i v p h g n =
@@ -208,11 +215,84 @@ write-stands f s i v p h g n =
     let no-rewrite : rewrites (settings f (p .divisor) (p .limit)) (reached i) v ≡ false =
     or-right (isReset i v) (rewrites (settings f (p .divisor) (p .limit)) (reached i) v) n in
     let b = bankOf (s .registers) in
-    write-view (λ (x : Written). Stands f (x .state .registers) p) s i v g
+    write-view (λ (x : Written). Stands f (x .state .registers) p) s i v (λ _. g)
     (λ _ e o. absurd (true≢false (sym (both (eqb i 0x40) (isOn v 7) (eq-eqb i 0x40 (reset-index b i e)) o) ∙ no-reset)))
     (λ a. store-stands f h (s .registers) p g (reachOf (s .registers) i) v (answered-cell (reachOf (s .registers) i) a)
     (rewrites-there f (p .divisor) (p .limit) b i v h no-rewrite))
+
+-- ---- the other way: a write that leaves the plan's limit and divisor is no rewrite
+
+-- in banks 1, 2 and 4 there is no 5Dh
+no-5d : (c : ℕ) → writeAnswer c ≡ 0 → (c ≢ 77) × (c ≢ 93) × (c ≢ 109) × (c ≢ 112)
+unfolding writeAnswer presentAt rows
+no-5d c a = (λ e. refuses (rw e at a), λ e. refuses (rw e at a), λ e. refuses (rw e at a), λ e. refuses (rw e at a))
   where
-    both : (a b : Bool) → a ≡ true → b ≡ true → (a && b) ≡ true
-    both true b e q = q
-    both false b e q = e
+    refuses : _≡_ {A = ℕ} 1 0 → ⊥
+    refuses z = omega arith
+
+banked : (b i : ℕ) → writeAnswer (cellOf b i) ≡ 0 → 64 ≤ cellOf b i → (48 ≤ reached i) × (reached i ≢ 61)
+unfolding cellOf
+banked b i =
+    choose-ind Banked (ltb i 0x20) _ _ (λ _ a h. absurd (no-5d 112 a .3 refl))
+    (λ l. choose-ind Banked (ltb 0x7F i) _ _ (λ _ a h. absurd (no-5d 112 a .3 refl))
+    (λ u. choose-ind Banked (leb 0x60 i) _ _ (λ e a h. absurd (omega (arith, ltb-false 0x7F i u)))
+    (λ e. choose-ind Banked (ltb i 0x50) _ _ (λ g a h. absurd (omega (arith, ltb-true i 0x50 g)))
+    (λ g. choose-ind Banked (eqb b 0) _ _ (λ _ a h. absurd (omega (arith, leb-false 0x60 i e)))
+    (λ _. choose-ind Banked (eqb b 1) _ _ (λ _ a h. by 64 e g (no-5d (64 + (i - 0x50)) a .0))
+    (λ _. choose-ind Banked (eqb b 2) _ _ (λ _ a h. by 80 e g (no-5d (80 + (i - 0x50)) a .1))
+    (λ _. choose-ind Banked (eqb b 4) _ _ (λ _ a h. by 96 e g (no-5d (96 + (i - 0x50)) a .2)) (λ _ a h. absurd (no-5d 112 a .3 refl)))))))))
+  where
+    Banked : ℕ → Type 0
+    Banked c = writeAnswer c ≡ 0 → 64 ≤ c → (48 ≤ reached i) × (reached i ≢ 61)
+
+    by : (n : ℕ) → leb 0x60 i ≡ false → ltb i 0x50 ≡ false → n + (i - 0x50) ≢ n + 13 → (48 ≤ reached i) × (reached i ≢ 61)
+    by n e g m = simp e (omega (arith, ltb-false i 0x50 g), λ z. m (omega (arith, ltb-false i 0x50 g)))
+
+rewrites-here : (f : ℕ) (d : Divisor) (l b i v : ℕ) → f ≤ 3 → writeAnswer (cellOf b i) ≡ 0 → rewrites (settings f d l) (cellOf b i) v ≡ false
+    → rewrites (settings f d l) (reached i) v ≡ false
+rewrites-here f d l b i v h a n = go (decLt (cellOf b i) 64)
+  where
+    go : Dec (cellOf b i < 64) → rewrites (settings f d l) (reached i) v ≡ false
+    go (yes q) = rw (reached-is b i q) n
+    go (no q) =
+        let w : (48 ≤ reached i) × (reached i ≢ 61) = banked b i a (omega arith) in
+        none-at f d l (reached i) v (λ e. omega (arith, w .0)) (λ e. omega (arith, w .0)) (λ e. omega (arith, w .0)) (w .1)
+
+-- a divisor's bits are all writable
+writable-places : (f c : ℕ) → c < cells → within (divisorPlaces f) c (storedBits c) ≡ true
+unfolding within writableAt rows bit
+writable-places f c h =
+    places-ind (λ (ps : List Place). within ps c (storedBits c) ≡ true) f
+    (same-tests cells (λ c. within (divisorPlaces 1) c (storedBits c)) (λ c. true) tt c h)
+    (same-tests cells (λ c. within (divisorPlaces 2) c (storedBits c)) (λ c. true) tt c h)
+    (same-tests cells (λ c. within (divisorPlaces 3) c (storedBits c)) (λ c. true) tt c h)
+
+neither : (a b : Bool) → a ≡ false → b ≡ false → (a || b) ≡ false
+neither true b e f = e
+neither false b e f = f
+
+module _ (f : ℕ) (h : f ≤ 3) (rs : List ℕ) (p : Set) (small : p .limit < 256) (c v : ℕ) (hc : c < cells) (w : length rs ≡ cells) where
+  store-agrees : getD (changes rs (change c (storedBits c) v ∷ [])) (fanLimit f) 0 ≡ p .limit
+      → gatherOf (changes rs (change c (storedBits c) v ∷ [])) (divisorPlaces f) ≡ exponentOf (p .divisor) → rewrites (settings f (p .divisor) (p .limit)) c v ≡ false
+  unfolding changes
+  store-agrees l b =
+      neither (eqb c (fanLimit f) && differs (change (fanLimit f) 0xFF (p .limit)) v) (rewrites (digitsOf (divisorPlaces f) (exponentOf (p .divisor))) c v)
+      (cell-agrees rs c (storedBits c) v (stored-byte c hc) (omega arith) (fanLimit f) (p .limit) small (λ e. ap storedBits (sym e) ∙ limit-mask f (omega arith)) l)
+      (field-agrees rs c (storedBits c) v (stored-byte c hc) (omega arith) (divisorPlaces f) (exponentOf (p .divisor)) (writable-places f c hc) b)
+
+pub write-agrees : (f : ℕ) (s : State) (i v : ℕ) (p : Set) → f ≤ 3 → length (s .registers) ≡ cells → p .limit < 256 → Bus.writeOf s i v .answer ≡ 0 → isReset i v ≡ false
+    → getD (Bus.writeOf s i v .state .registers) (fanLimit f) 0 ≡ p .limit → gatherOf (Bus.writeOf s i v .state .registers) (divisorPlaces f) ≡ exponentOf (p .divisor)
+    → (isReset i v || rewrites (settings f (p .divisor) (p .limit)) (reached i) v) ≡ false
+write-agrees f s i v p h w small a n =
+    let b = bankOf (s .registers) in
+    let c = reachOf (s .registers) i in
+    let z : writeAnswer (reachOf (s .registers) i) ≡ 0 = sym (write-answer s i v) ∙ a in
+    let hc : reachOf (s .registers) i < cells = answered-cell (reachOf (s .registers) i) z in
+    write-view
+    (λ (x : Written).
+    getD (x .state .registers) (fanLimit f) 0 ≡ p .limit → gatherOf (x .state .registers) (divisorPlaces f) ≡ exponentOf (p .divisor)
+    → (isReset i v || rewrites (settings f (p .divisor) (p .limit)) (reached i) v) ≡ false)
+    s i v (λ k _ _. absurd (k z)) (λ _ e o _ _. absurd (true≢false (sym (both (eqb i 0x40) (isOn v 7) (eq-eqb i 0x40 (reset-index b i e)) o) ∙ n)))
+    (λ _ l g.
+    neither (isReset i v) (rewrites (settings f (p .divisor) (p .limit)) (reached i) v) n
+    (rewrites-here f (p .divisor) (p .limit) b i v h z (store-agrees f h (s .registers) p small c v hc w l g)))

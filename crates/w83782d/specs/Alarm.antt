@@ -3,6 +3,7 @@
 use mathlib.Core.Path.{_≡_}
 use mathlib.Core.Bool.{Bool, false, _&&_, _||_}
 use mathlib.Core.List.{List}
+use mathlib.Core.Logic.{_↔_}
 use Prim.Native.Nat.{ℕ, _-_, _*_, _≤_}
 use lib.Dec.{eqb, leb}
 use lib.ListN.{length, getD}
@@ -17,6 +18,8 @@ use Rattle.alarm.specs.Alarm.{Force, none, plan, Machine, Everywhere, rewrites}
 use Rattle.samples.specs.declared.Sample.{Sample}
 use Rattle.w83782d_map.specs.Map.{cells, at}
 use Rattle.w83782d_store.specs.Stored as Stored
+use Rattle.w83782d_store.specs.Stored.{divisorOf}
+use Rattle.w83782d_sample.specs.Sample.{fanLimit}
 use Rattle.w83782d_sample_laws.specs.Claims.{fanBit}
 use Rattle.w83782d_plan.specs.Plan.{settings}
 use Rattle.w83782d_plan.specs.Claims.{PlanSet}
@@ -122,12 +125,18 @@ pub record Rings (f : ℕ) (m : Monitor) (p : Set) (x : Sample) : Type 0 where
   -- so at a steady speed a/b at or below the one asked it is 1
   pub steady : (a b : ℕ) → 1 ≤ b → a ≤ p .speed * b → undividedOf x f ≡ countOf a b → realTimeBit (sampleOf m x .monitor) f ≡ 1
 
+-- no plan is said to end too soon: a write that is no reset ends it exactly if it leaves another limit or divisor
+pub record HasPlan (f : ℕ) (m : Monitor) (p : Set) : Type 0 where
+  pub limit : getD (m .registers) (fanLimit f) 0 ≡ p .limit
+  pub divisor : divisorOf (m .registers) f ≡ p .divisor
+
 -- what is said of one call, of the state that it finds and the plan then in force
 abbrev pub Said : ℕ → Monitor → Force Set → Call → Type 0
 Said f m p (setPlan g w) = g ≡ f → 1 ≤ w → w ≤ perMinute → SetsPlan f m w
 Said f m none (sample x) = Unit {0}
 Said f m (plan p) (sample x) = sampleOf m x .answer ≡ 0 → Rings f m p x
-Said f m p (write i v) = Unit {0}
+Said f m none (write i v) = Unit {0}
+Said f m (plan p) (write i v) = writeOf m i v .answer ≡ 0 → isReset i v ≡ false → (ends f p (write i v) ≡ false) ↔ HasPlan f (writeOf m i v .monitor) p
 Said f m p (read i) = Unit {0}
 Said f m p chassis = Unit {0}
 

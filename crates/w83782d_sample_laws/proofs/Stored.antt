@@ -14,9 +14,9 @@ use lib.Seq.{getD-set-same, getD-set-other, set-out}
 use Rattle.bits.specs.Bits.{bit, isOn, gatherOf, numberOf}
 use Rattle.bits.specs.Map.{among}
 use Rattle.bits.specs.declared.Place.{Place}
-use Rattle.bits.proofs.BitLaws.{bit-none, number-lt}
+use Rattle.bits.proofs.BitLaws.{bit-none, number-lt, same-byte}
 use Rattle.bits.proofs.FieldLaws.{and-left, and-right}
-use Rattle.bits.proofs.Every.{same-below, same-tests}
+use Rattle.bits.proofs.Every.{same-tests}
 use Rattle.fan.specs.Count.{valueOf, storedOf, fromBits}
 use Rattle.fan.specs.Divisors.{divisorAt}
 use Rattle.fan.specs.declared.Divisor.{Divisor}
@@ -31,29 +31,6 @@ use Rattle.w83782d_sample.specs.Sample.Source.{sensor}
 use Rattle.w83782d_readings.specs.Outputs.{smiMask1, smiMask2, smiOf}
 use Rattle.w83782d_sample_laws.specs.Claims.{Whole, cellIn, after, touched, ruleless, Alike, StoredOnly}
 use Rattle.w83782d_sample_laws.proofs.Stores.{sample-answer, accepted-state, refused-state, frame}
-
--- ---- a byte is fixed by its eight bits
-from-bits : (n : ℕ) → n < 256
-    → n ≡ bit n 0 + 2 * bit n 1 + 4 * bit n 2 + 8 * bit n 3 + 16 * bit n 4 + 32 * bit n 5 + 64 * bit n 6 + 128 * bit n 7
-unfolding bit
-from-bits =
-    same-below 256 (λ n. n) (λ n. bit n 0 + 2 * bit n 1 + 4 * bit n 2 + 8 * bit n 3 + 16 * bit n 4 + 32 * bit n 5 + 64 * bit n 6 + 128 * bit n 7) tt
-
-same-byte : (a b : ℕ) → a < 256 → b < 256 → ((j : ℕ) → j < 8 → bit a j ≡ bit b j) → a ≡ b
-same-byte a b ha hb e =
-    omega (
-      arith,
-      from-bits a ha,
-      from-bits b hb,
-      e 0 (lit< tt),
-      e 1 (lit< tt),
-      e 2 (lit< tt),
-      e 3 (lit< tt),
-      e 4 (lit< tt),
-      e 5 (lit< tt),
-      e 6 (lit< tt),
-      e 7 (lit< tt),
-    )
 
 -- ---- registers alike: a cell that rules name whole, and a bit that a rule names
 abbrev plain : ℕ → Bool

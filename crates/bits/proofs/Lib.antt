@@ -1,6 +1,6 @@
 pub mod Every
 pub mod BitLaws
-pub mod FieldLaws
+pub mod ChangeLaws
 pub mod Match
 pub mod Tables
 pub mod Flags

@@ -1,10 +1,9 @@
-// Bits of bytes: one bit, a merge by mask, a field of three bits that lie anywhere in the registers.
+// Bits of bytes: one bit, a merge by mask, a store of some bits of a cell, flags packed into a byte.
 // Nothing here is of one chip. A cell beyond the slice reads 0, and a store to it does nothing.
 ghost use mathlib.Core.Path.{_≡_};
 ghost use mathlib.Core.List.{[], _∷_};
-ghost use Prim.Native.Nat.{_*_, _%_, _^_};
 ghost use lib.ListN.{getD};
-ghost use Rattle.bits.specs.Bits.{bit, numberOf, isOn, mergeOf, change, changes, gatherOf, replaceOf, placesOf, flagOf, word};
+ghost use Rattle.bits.specs.Bits.{bit, numberOf, isOn, mergeOf, change, changes, flagOf, word};
 
 // The number of a bit of a byte: no other can be written.
 pub enum Bit {
@@ -34,19 +33,6 @@ impl Bit {
             Bit::B7 => 7,
         }
     }
-}
-
-// Where one bit lies: its cell, and its number there.
-pub struct Place {
-    pub cell: usize,
-    pub bit: Bit,
-}
-
-// A field of three bits, lowest first.
-pub struct Field {
-    pub low: Place,
-    pub middle: Place,
-    pub high: Place,
 }
 
 // One bit of a byte, 0 or 1.
@@ -88,50 +74,6 @@ pub fn store(s: &mut [u8], cell: usize, mask: u8, byte: u8)
     if cell < s.len() {
         s[cell] = merge(s[cell], mask, byte);
     }
-}
-
-// The bit at a place.
-fn bit_at(s: &[u8], p: Place) -> u8
-    ensures { λ r. ⌜ r ≡ bit (getD (now (s .entry)) (p .cell) 0) (numberOf (p .bit)) ⌝ }
-{
-    let cell = p.cell;
-    let b = p.bit;
-    if cell < s.len() {
-        return bit_of(s[cell], b);
-    }
-    0
-}
-
-// The value of a field, 0 to 7.
-pub fn gather(s: &[u8], f: Field) -> u8
-    ensures { λ r. ⌜ r ≡ gatherOf (now (s .entry)) (placesOf f) ⌝ }
-{
-    let low = f.low;
-    let middle = f.middle;
-    let high = f.high;
-    bit_at(s, low) | (bit_at(s, middle) << 1) | (bit_at(s, high) << 2)
-}
-
-// The lowest bit of a number, put at a place.
-fn put_bit(s: &mut [u8], p: Place, digit: u8)
-    ensures { λ r. ⌜ now (s .exit) ≡ changes (now (s .entry)) (change (p .cell) (2 ^ numberOf (p .bit)) (digit % 2 * 2 ^ numberOf (p .bit)) ∷ []) ⌝ }
-{
-    let cell = p.cell;
-    let b = p.bit;
-    let j = b.number();
-    store(s, cell, 1 << j, (digit & 1) << j);
-}
-
-// A field given the lowest three bits of a value; every other bit of every cell stays.
-pub fn replace(s: &mut [u8], f: Field, value: u8)
-    ensures { λ r. ⌜ now (s .exit) ≡ replaceOf (now (s .entry)) (placesOf f) value ⌝ }
-{
-    let low = f.low;
-    let middle = f.middle;
-    let high = f.high;
-    put_bit(s, low, value);
-    put_bit(s, middle, value >> 1);
-    put_bit(s, high, value >> 2);
 }
 
 // A flag as a bit.

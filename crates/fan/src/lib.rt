@@ -2,14 +2,14 @@
 ghost use mathlib.Core.Path.{_≡_};
 ghost use Prim.Native.Nat.{_<_, _%_, _^_};
 ghost use Rattle.fan.specs.Count.{exponentOf, valueOf, fromBits, storedOf, overLimit};
-ghost use Rattle.bits.specs.Bits.{placesOf};
+ghost use Rattle.fields.specs.Fields.{placesOf};
 ghost use Rattle.fan.specs.Divisors.{divisorAt, withDivisor, Fields};
 ghost use Rattle.fan.specs.Plan.{IsPlanned, Plans};
 ghost use Rattle.fan.specs.Search.{choiceAt, productOf, better, bestTo, planOf};
 ghost use Rattle.fan.specs.Speed.{speedOf};
-use bits::Field;
-use bits::gather;
-use bits::replace;
+use fields::Field;
+use fields::gather;
+use fields::replace;
 use rounding::rounded;
 
 // What a fan at one turn a minute counts.

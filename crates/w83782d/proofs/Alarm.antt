@@ -17,8 +17,8 @@ use Rattle.fan.specs.declared.Divisor.{Divisor}
 use Rattle.fan.specs.declared.Planned.the-variants.{Plan}
 use Rattle.fan.proofs.Divisors.{from-exponent, exponent-of-bits, value-is}
 use Rattle.fan.proofs.Planning.{plans-hold}
-use Rattle.bits.specs.Bits.{gatherOf}
-use Rattle.bits.specs.declared.Place.{Place}
+use Rattle.fields.specs.Fields.{gatherOf}
+use Rattle.fields.specs.declared.Place.{Place}
 use Rattle.bits.proofs.BitLaws.{bit-lt}
 use Rattle.alarm.specs.Alarm.{Force, none, plan, Laws}
 use Rattle.alarm.specs.Alarm as alarm

@@ -11,12 +11,13 @@ use borrow.Author.Tests.{eq-eqb, ne-eqb, eqb-true, eqb-false, ltb-true, ltb-fals
 use lib.Dec.{eqb, ltb, leb, lit<}
 use lib.ListN.{length, getD, length-set}
 use lib.Seq.{getD-set-other}
-use Rattle.bits.specs.Bits.{bit, isOn, change, changes, digitsOf, gatherOf}
+use Rattle.bits.specs.Bits.{bit, isOn, change, changes}
+use Rattle.fields.specs.Fields.{digitsOf, gatherOf}
 use Rattle.bits.specs.Map.{among}
-use Rattle.bits.specs.declared.Place.{Place}
+use Rattle.fields.specs.declared.Place.{Place}
 use Rattle.bits.proofs.BitLaws.{choose-ind}
 use Rattle.bits.proofs.Every.{same-below, same-tests}
-use Rattle.bits.proofs.FieldLaws.{and-left, and-right, or-left, or-right, changes-length}
+use Rattle.bits.proofs.ChangeLaws.{and-left, and-right, or-left, or-right, changes-length}
 use Rattle.fan.specs.Count.{exponentOf, valueOf}
 use Rattle.fan.specs.Plan.{IsPlan}
 use Rattle.fan.specs.declared.Divisor.{Divisor}

@@ -15,7 +15,7 @@ use lib.ListN.{length, getD, set, List·getD-eq-default}
 use lib.Seq.{getD-set-same, getD-set-other, set-getD, set-out}
 use Rattle.bits.specs.Bits.{bit, isOn, choose, mergeOf, change, changes}
 use Rattle.bits.proofs.BitLaws.{choose-ind, bit-lt, bit-on, bit-off, and-bit, or-bit, merge-kept, merge-given}
-use Rattle.bits.proofs.FieldLaws.{and-left}
+use Rattle.bits.proofs.ChangeLaws.{and-left}
 use Rattle.bits.proofs.Every.{every-at, every-at2, same-tests}
 use Rattle.bits.proofs.Tables.{tabulate-length, tabulate-at}
 use Rattle.sensor.specs.Sensor.{armed, releasedOf}

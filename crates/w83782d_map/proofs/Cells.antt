@@ -13,7 +13,7 @@ use lib.ListN.{getD}
 use Rattle.bits.specs.Bits.{choose, bit, isOn}
 use Rattle.bits.specs.Map.{tabulate}
 use Rattle.bits.proofs.Every.{both, both-left, both-right, every-at, beq-same}
-use Rattle.bits.proofs.FieldLaws.{and-left}
+use Rattle.bits.proofs.ChangeLaws.{and-left}
 use Rattle.bits.proofs.Match.{NoKey, last-arm}
 use Rattle.w83782d_map.specs.Map.{cells, rows, keptByReset, presentAt, writableAt, powerOnAt, keptAt, bankSelect}
 use Rattle.w83782d_map.specs.Registers.{cellOf, reachOf, writeAnswer, storedBits}

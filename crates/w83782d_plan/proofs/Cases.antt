@@ -8,10 +8,11 @@ use native.Mathlib.Omega.{arith}
 use borrow.Author.Tests.{eq-eqb, ne-eqb, lt-ltb, le-ltb, ltb-false}
 use lib.Dec.{ltb}
 use lib.ListN.{length}
-use Rattle.bits.specs.Bits.{change, changes, placesOf}
-use Rattle.bits.specs.declared.Field.{Field}
+use Rattle.bits.specs.Bits.{change, changes}
+use Rattle.fields.specs.Fields.{placesOf}
+use Rattle.fields.specs.declared.Field.{Field}
 use Rattle.bits.proofs.BitLaws.{choose-ind}
-use Rattle.bits.proofs.FieldLaws.{or-left, or-right}
+use Rattle.bits.proofs.ChangeLaws.{or-left, or-right}
 use Rattle.fan.specs.Divisors.{withDivisor}
 use Rattle.fan.specs.Plan.{planAnswer}
 use Rattle.fan.specs.Search.{planOf}

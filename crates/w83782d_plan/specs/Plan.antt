@@ -3,7 +3,8 @@ use mathlib.Core.Bool.{Bool, _||_}
 use mathlib.Core.List.{List, _∷_}
 use Prim.Native.Nat.{ℕ}
 use lib.Dec.{ltb}
-use Rattle.bits.specs.Bits.{choose, Change, change, changes, digitsOf}
+use Rattle.bits.specs.Bits.{choose, Change, change, changes}
+use Rattle.fields.specs.Fields.{digitsOf}
 use Rattle.fan.specs.Count.{exponentOf}
 use Rattle.fan.specs.Plan.{planAnswer}
 use Rattle.fan.specs.Search.{planOf}

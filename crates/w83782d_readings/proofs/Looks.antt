@@ -11,8 +11,9 @@ use lib.Count.{ones, ones-le}
 use lib.Dec.{eqb, ltb}
 use lib.IntN.{ℤ}
 use lib.ListN.{getD}
-use Rattle.bits.specs.Bits.{isOn, placesOf}
-use Rattle.bits.specs.declared.Field.{Field}
+use Rattle.bits.specs.Bits.{isOn}
+use Rattle.fields.specs.Fields.{placesOf}
+use Rattle.fields.specs.declared.Field.{Field}
 use Rattle.bits.proofs.Match.{NoKey}
 use Rattle.fan.specs.Count.{valueOf}
 use Rattle.fan.specs.Divisors.{divisorAt}

@@ -11,11 +11,12 @@ use borrow.Author.Tests.{ne-eqb, eqb-true, ltb-true, lt-ltb}
 use lib.Dec.{eqb, ltb, lit<}
 use lib.ListN.{getD, length, set, length-set}
 use lib.Seq.{getD-set-same, getD-set-other, set-out}
-use Rattle.bits.specs.Bits.{bit, isOn, gatherOf, numberOf}
+use Rattle.bits.specs.Bits.{bit, isOn, numberOf}
+use Rattle.fields.specs.Fields.{gatherOf}
 use Rattle.bits.specs.Map.{among}
-use Rattle.bits.specs.declared.Place.{Place}
+use Rattle.fields.specs.declared.Place.{Place}
 use Rattle.bits.proofs.BitLaws.{bit-none, number-lt, same-byte}
-use Rattle.bits.proofs.FieldLaws.{and-left, and-right}
+use Rattle.bits.proofs.ChangeLaws.{and-left, and-right}
 use Rattle.bits.proofs.Every.{same-tests}
 use Rattle.fan.specs.Count.{valueOf, storedOf, fromBits}
 use Rattle.fan.specs.Divisors.{divisorAt}

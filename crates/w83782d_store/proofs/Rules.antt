@@ -8,9 +8,10 @@ use native.Mathlib.Omega.{arith}
 use borrow.Author.Tests.{eq-eqb, ne-eqb, not-true, not-false}
 use lib.IntN.{ℤ}
 use lib.ListN.{getD, length, set}
-use Rattle.bits.specs.Bits.{isOn, placesOf}
+use Rattle.bits.specs.Bits.{isOn}
+use Rattle.fields.specs.Fields.{placesOf}
 use Rattle.bits.specs.declared.Bit.the-variants.{B4, B5, B6, B7}
-use Rattle.bits.specs.declared.Field.{Field}
+use Rattle.fields.specs.declared.Field.{Field}
 use Rattle.fan.specs.Count.{valueOf, storedOf}
 use Rattle.fan.specs.Divisors.{divisorAt}
 use Rattle.fan.specs.declared.Divisor.{Divisor}

@@ -4,7 +4,7 @@ use Prim.Native.Nat.{ℕ, _+_}
 use lib.IntN.{ℤ}
 use Rattle.bits.specs.Bits.{choose}
 use Rattle.bits.specs.declared.Bit.{Bit}
-use Rattle.bits.specs.declared.Field.{Field}
+use Rattle.fields.specs.declared.Field.{Field}
 use Rattle.analog.specs.Temperature.{half8, codeOf, halfCodeOf, halfHigh, halfLow}
 use Rattle.samples.specs.declared.Sample.{Sample}
 use Rattle.w83782d_map.specs.Map.{at}

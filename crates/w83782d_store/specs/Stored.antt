@@ -8,7 +8,7 @@ use lib.ListN.{getD, set}
 use Rattle.bits.specs.Bits.{choose, isOn}
 use Rattle.bits.specs.declared.Bit.{Bit}
 use Rattle.bits.specs.declared.Bit.the-variants.{B4, B5, B6, B7}
-use Rattle.bits.specs.declared.Place.{Place}
+use Rattle.fields.specs.declared.Place.{Place}
 use Rattle.fan.specs.Count.{valueOf, storedOf}
 use Rattle.fan.specs.Divisors.{divisorAt}
 use Rattle.fan.specs.declared.Divisor.{Divisor}

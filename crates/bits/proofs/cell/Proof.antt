@@ -1,7 +1,7 @@
 -- Within the slice the element, beyond it the default of `getD`.
 -- Assumes nothing.
 use borrow.Author.Needs.{needs}
-use Rattle.bits.proofs.FieldLaws.{cell-out}
+use Rattle.bits.proofs.ChangeLaws.{cell-out}
 use Rattle.bits.proofs.cell.Statement.{statement}
 use Rattle.bits.proofs.cell.Tie as tie
 

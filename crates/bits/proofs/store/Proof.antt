@@ -1,5 +1,5 @@
 use borrow.Author.Needs.{needs}
-use Rattle.bits.proofs.FieldLaws.{store-in, store-out}
+use Rattle.bits.proofs.ChangeLaws.{store-in, store-out}
 use Rattle.bits.proofs.store.Statement.{statement}
 use Rattle.bits.proofs.store.Tie as tie
 

@@ -1,7 +1,7 @@
 use borrow.Author.Needs.{needs}
-use Rattle.bits.proofs.FieldLaws.{read-out}
-use Rattle.bits.proofs.bit_at.Statement.{statement}
-use Rattle.bits.proofs.bit_at.Tie as tie
+use Rattle.fields.proofs.FieldLaws.{read-out}
+use Rattle.fields.proofs.bit_at.Statement.{statement}
+use Rattle.fields.proofs.bit_at.Tie as tie
 
 shared-slice-read-bit-of : tie.Need-shared-slice-read-bit-of
 shared-slice-read-bit-of c = search needs

@@ -1,8 +1,8 @@
 use borrow.Author.Needs.{needs}
 use Rattle.bits.proofs.BitLaws.{number-small}
-use Rattle.bits.proofs.FieldLaws.{put-in}
-use Rattle.bits.proofs.put_bit.Statement.{statement}
-use Rattle.bits.proofs.put_bit.Tie as tie
+use Rattle.fields.proofs.FieldLaws.{put-in}
+use Rattle.fields.proofs.put_bit.Statement.{statement}
+use Rattle.fields.proofs.put_bit.Tie as tie
 
 number-requires : tie.Need-number-requires
 number-requires c κs = search needs

@@ -1,75 +1,26 @@
--- Changes of cells and fields of bits, by induction over the list of changes or of places.
+-- Fields of bits, by induction over the list of places.
 -- Assumes nothing.
 use mathlib.Core.Path.{_≡_, _∙_, ap, ap₂, sym, refl}
-use mathlib.Core.Bool.{Bool, true, false, _||_, not, _&&_, true≢false, false≢true}
+use mathlib.Core.Bool.{Bool, _||_, not, _&&_}
 use mathlib.Core.List.{List, [], _∷_}
-use mathlib.Core.Logic.{_≢_}
-use Prim.Native.Nat.{ℕ, zero, suc, _+_, _-_, _*_, _/_, _%_, _^_, _<_, _≤_}
-use native.Mathlib.Decide.{ℕ-discrete, decLt}
+use Prim.Native.Nat.{ℕ, zero, suc, _+_, _*_, _/_, _%_, _^_, _<_, _≤_}
 use native.Mathlib.Nat.{mod-lt, pow-suc, mod-one, one-mul, div-div-eq-div-mul}
 use native.Mathlib.Omega.{arith}
 use lib.Arith.{mod-mul}
 use lib.Pow.{pow-pos}
 use lib.Bits.{bitAnd, bitOr}
-use lib.Dec.{T, eqb, eqb→eq, leb, ltb, lit<}
-use lib.ListN.{getD, set, length, length-set, List·getD-eq-default}
-use lib.Seq.{getD-set-same, getD-set-other, set-out}
-use borrow.Author.Tests.{eq-eqb, ltb-true, not-true}
-use Rattle.bits.specs.Bits.{bit, isOn, mergeOf, Change, change, changes, touches, gatherOf, digitsOf, replaceOf, numberOf, isIn, distinct, apart, inside}
-use Rattle.bits.specs.Claims.{Masks, ChangesKeep, ReplaceKeeps, GatherGivesBack, OtherStays}
+use lib.Dec.{eqb, eqb→eq, ltb, lit<}
+use lib.ListN.{getD, length, length-set, List·getD-eq-default}
+use borrow.Author.Tests.{ltb-true, not-true}
+use Rattle.bits.specs.Bits.{bit, isOn, change, changes, touches, numberOf}
+use Rattle.bits.specs.Claims.{Masks}
 use Rattle.bits.specs.declared.Bit.{Bit}
-use Rattle.bits.specs.declared.Place.{Place}
 use Rattle.bits.proofs.Every.{every, every-at, every-at2, same-below, less-below, same-below2}
-use Rattle.bits.proofs.BitLaws.{merge-kept, merge-given, bit-placed, bit-off, bit-lt, bit-none, low-digit, shifted, number-lt, bool-same, one-if}
-
--- ---- tests on two parts
-pub or-left : (a b : Bool) → (a || b) ≡ false → a ≡ false
-or-left true b e = e
-or-left false b e = refl
-
-pub or-right : (a b : Bool) → (a || b) ≡ false → b ≡ false
-or-right true b e = absurd (true≢false e)
-or-right false b e = e
-
-pub and-left : (a b : Bool) → (a && b) ≡ true → a ≡ true
-and-left true b e = refl
-and-left false b e = e
-
-pub and-right : (a b : Bool) → (a && b) ≡ true → b ≡ true
-and-right true b e = e
-and-right false b e = absurd (false≢true e)
-
--- ---- changes
-pub changes-length : (cs : List Change) (rs : List ℕ) → length (changes rs cs) ≡ length rs
-unfolding changes
-changes-length [] rs = refl
-changes-length (c ∷ cs) rs = changes-length cs _ ∙ length-set rs (c .cell) _
-
--- one change keeps every bit that its mask does not have, and every other cell
-module _ (rs : List ℕ) (cell mask byte : ℕ) (hm : mask < 256) where
-  abbrev one : List ℕ
-  one = set rs cell (mergeOf (getD rs cell 0) mask byte)
-
-  one-keeps : (k j : ℕ) → j < 8 → (eqb k cell && isOn mask j) ≡ false → bit (getD one k 0) j ≡ bit (getD rs k 0) j
-  one-keeps k j hj e = go (ℕ-discrete k cell) (decLt cell (length rs))
-    where
-      go : Dec (k ≡ cell) → Dec (cell < length rs) → bit (getD one k 0) j ≡ bit (getD rs k 0) j
-      go (no n) d = ap (λ (x : ℕ). bit x j) (getD-set-other rs cell k _ 0 n)
-      go (yes q) (no l) = ap (λ (s : List ℕ). bit (getD s k 0) j) (set-out rs cell _ (omega arith))
-      go (yes q) (yes l) =
-          let off : isOn mask j ≡ false = simp (eq-eqb k cell q) at e in
-          rw (q, getD-set-same) (merge-kept (getD rs cell 0) mask byte j hm hj (bit-off mask j off))
-
-  -- and takes the others from its byte
-  pub one-given : (j : ℕ) → cell < length rs → j < 8 → bit mask j ≡ 1 → bit (getD one cell 0) j ≡ bit byte j
-  one-given j h hj e = rw getD-set-same (merge-given (getD rs cell 0) mask byte j hm hj e)
-
-pub changes-keep : ChangesKeep
-unfolding changes touches
-changes-keep rs [] k j m hj e = refl
-changes-keep rs (c ∷ cs) k j m hj e =
-    changes-keep (one rs (c .cell) (c .mask) (c .byte) (m .0)) cs k j (m .1) hj (or-right (eqb k (c .cell) && isOn (c .mask) j) (touches cs k j) e)
-    ∙ one-keeps rs (c .cell) (c .mask) (c .byte) (m .0) k j hj (or-left (eqb k (c .cell) && isOn (c .mask) j) (touches cs k j) e)
+use Rattle.bits.proofs.BitLaws.{bit-placed, bit-lt, bit-none, low-digit, shifted, number-lt, bool-same, one-if}
+use Rattle.bits.proofs.ChangeLaws.{and-left, and-right, one, one-given, changes-keep}
+use Rattle.fields.specs.declared.Place.{Place}
+use Rattle.fields.specs.Fields.{gatherOf, digitsOf, replaceOf, isIn, distinct, apart, inside}
+use Rattle.fields.specs.Claims.{ReplaceKeeps, GatherGivesBack, OtherStays}
 
 -- ---- fields
 pow-byte : (j : ℕ) → j < 8 → 2 ^ j < 256
@@ -129,17 +80,6 @@ other-stays rs ps (q ∷ qs) v e =
     (other-stays rs ps qs v (and-right (not (isIn ps (q .cell) j)) (apart ps qs) e))
 
 -- ---- what the functions compute, in the words of the definitions
-pub store-in : (rs : List ℕ) (cell mask byte r : ℕ) → r ≡ mergeOf (getD rs cell 0) mask byte → set rs cell r ≡ changes rs (change cell mask byte ∷ [])
-unfolding changes
-store-in rs cell mask byte r e = ap (set rs cell) e
-
-pub store-out : (rs : List ℕ) (cell mask byte : ℕ) → length rs ≤ cell → rs ≡ changes rs (change cell mask byte ∷ [])
-unfolding changes
-store-out rs cell mask byte h = sym (set-out rs cell _ h)
-
-pub cell-out : (rs : List ℕ) (c : ℕ) → length rs ≤ c → 0 ≡ getD rs c 0
-cell-out rs c h = sym (List·getD-eq-default rs 0 h)
-
 pub read-out : (rs : List ℕ) (cell j : ℕ) → length rs ≤ cell → 0 ≡ bit (getD rs cell 0) j
 read-out rs cell j h = sym (ap (λ (x : ℕ). bit x j) (List·getD-eq-default rs 0 h) ∙ bit-none j)
 

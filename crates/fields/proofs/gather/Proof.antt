@@ -1,7 +1,7 @@
 use borrow.Author.Needs.{needs}
-use Rattle.bits.proofs.FieldLaws.{gather-in}
-use Rattle.bits.proofs.gather.Statement.{statement}
-use Rattle.bits.proofs.gather.Tie as tie
+use Rattle.fields.proofs.FieldLaws.{gather-in}
+use Rattle.fields.proofs.gather.Statement.{statement}
+use Rattle.fields.proofs.gather.Tie as tie
 
 bit-at-requires : tie.Need-bit-at-requires
 bit-at-requires c κs = search needs

@@ -1,7 +1,7 @@
 use borrow.Author.Needs.{needs}
-use Rattle.bits.proofs.FieldLaws.{replace-in}
-use Rattle.bits.proofs.replace.Statement.{statement}
-use Rattle.bits.proofs.replace.Tie as tie
+use Rattle.fields.proofs.FieldLaws.{replace-in}
+use Rattle.fields.proofs.replace.Statement.{statement}
+use Rattle.fields.proofs.replace.Tie as tie
 
 put-bit-requires : tie.Need-put-bit-requires
 put-bit-requires c κs = search needs

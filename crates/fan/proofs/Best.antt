@@ -1,8 +1,9 @@
 -- The best choice of the divisors up to an exponent has the largest product within k, and of equals the smallest divisor.
 -- By induction: one more divisor is taken only for a larger product. Assumes nothing.
-use Prim.Native.Nat.{ℕ, zero, suc, _*_, _/_, _^_, _≤_, _<_}
+use Prim.Native.Nat.{ℕ, zero, suc, _+_, _*_, _/_, _^_, _≤_, _<_}
 use native.Mathlib.Nat.{mul-le-mul-right, div-mul-le-self, le-div-iff-mul-le, le-min, min-le-left, min-le-right, le-trans, le-of-lt, le-of-eq, zero-mul}
 use native.Mathlib.Decide.{decLe}
+use native.Mathlib.Numerals.{add-one}
 use native.Mathlib.Omega.{arith}
 use mathlib.Core.Path.{_≡_, refl, sym, subst, ap, _∙_}
 use mathlib.Core.Bool.{Bool, true, false}
@@ -93,6 +94,10 @@ best k (suc e) h = step k e (bestTo k e) h (best k e (omega arith))
 pub bestTo-suc : (k e : ℕ) → bestTo k (suc e) ≡ better k (bestTo k e) (fromBits (suc e))
 unfolding bestTo
 bestTo-suc k e = refl
+
+-- a turn of the loop
+pub one-more : (k e : ℕ) (b n : Choice) (d : Divisor) → b ≡ bestTo k e → d ≡ fromBits (e + 1) → n ≡ better k b d → n ≡ bestTo k (e + 1)
+one-more k e b n d eb ed en = en ∙ rw (eb, ed, add-one) (sym (bestTo-suc k e))
 
 -- the best choice of the eight
 pub best-of-eight : (k : ℕ) → Best k 7 (bestTo k 7)

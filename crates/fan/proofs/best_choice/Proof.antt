@@ -2,12 +2,11 @@
 -- Assumes nothing.
 use native.Mathlib.Omega.{arith}
 use Prim.Native.Nat.{_-_, _≤_}
-use native.Mathlib.Numerals.{add-one}
 use mathlib.Core.Path.{_≡_, ap, _∙_}
 use borrow.Author.Needs.{needs}
 use Rattle.fan.specs.declared.Divisor.{Divisor}
 use Rattle.fan.specs.Search.{choiceAt, bestTo}
-use Rattle.fan.proofs.Best.{bestTo-suc}
+use Rattle.fan.proofs.Best.{one-more}
 use Rattle.fan.proofs.best_choice.Statement.{statement}
 use Rattle.fan.proofs.best_choice.Tie as tie
 
@@ -47,15 +46,14 @@ loop-less c = omega arith
 
 loop-again : tie.Need-loop-again Inv-loop μ-loop
 loop-again c =
-    let l = c .before .before .before .loop in (
-      omega arith,
-      cc (c .better-of .ensures, c .before .from-bits2 .ensures .0, bestTo-suc (c .before .before .before .before .before .before .args .k) (l .e), add-one (l .e), l .inv .1),
-    )
+    let l = c .before .before .before .loop in
+    (omega arith, one-more _ (l .e) (l .best) _ _ (l .inv .1) (c .before .from-bits2 .ensures .0) (c .better-of .ensures))
 
 returns : tie.Need-returns Inv-loop μ-loop
 returns c =
-    let h : c .before .loop .e ≡ 7 = omega arith in
-    cc
+    let l = c .before .loop in
+    let h : l .e ≡ 7 = omega arith in
+    l .inv .1 ∙ ap (bestTo _) h
 
 pub best-choice-spec : {M : Type 1} → statement M
 best-choice-spec =

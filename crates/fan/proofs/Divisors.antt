@@ -30,9 +30,9 @@ value-pos d = pow-pos (exponentOf d)
 pub value-le : (d : Divisor) → valueOf d ≤ 128
 value-le d = pow-mono {i = exponentOf d} {j = 7} (omega (arith, exponent-lt d))
 
--- a byte times a divisor
-pub product-le : (n : ℕ) (d : Divisor) → n < 256 → n * valueOf d ≤ 32640
-product-le n d h = mul-le-mul {n₂ = 255} {m₂ = 128} (omega arith) (value-le d)
+-- a byte, or a byte and one, times a divisor
+pub product-le : (n : ℕ) (d : Divisor) → n ≤ 256 → n * valueOf d ≤ 32768
+product-le n d h = mul-le-mul {n₂ = 256} {m₂ = 128} h (value-le d)
 
 -- a shift in a byte makes the value
 pub shifted : (k : ℕ) → k < 8 → 1 * 2 ^ k % 256 ≡ 2 ^ k

@@ -4,7 +4,7 @@ ghost use Prim.Native.Nat.{_<_, _%_, _^_};
 ghost use Rattle.fan.specs.Count.{exponentOf, valueOf, fromBits, storedOf, overLimit};
 ghost use Rattle.fields.specs.Fields.{placesOf};
 ghost use Rattle.fan.specs.Divisors.{divisorAt, withDivisor, Fields};
-ghost use Rattle.fan.specs.Plan.{IsPlanned, Plans};
+ghost use Rattle.fan.specs.Plan.{ringsFrom, IsPlanned, Plans};
 ghost use Rattle.fan.specs.Search.{choiceAt, productOf, better, bestTo, planOf};
 ghost use Rattle.fan.specs.Speed.{speedOf};
 use fields::Field;
@@ -195,6 +195,13 @@ pub fn plan(w: u32) -> Planned
         divisor,
         limit: best.counts - 1,
     }
+}
+
+// The undivided count from which a divisor and a limit ring.
+pub fn rings_from(divisor: Divisor, limit: u8) -> u32
+    ensures { λ r. ⌜ r ≡ ringsFrom (valueOf divisor) limit ⌝ }
+{
+    (limit as u32 + 1) * (divisor.value() as u32)
 }
 
 impl Divided {

@@ -25,7 +25,15 @@ pack-requires : tie.Need-pack-requires
 pack-requires c κs = search needs
 
 returns : tie.Need-returns
-returns c = search (needs, first-packed)
+returns c =
+    let fan2 = c .before in
+    let fan1 = fan2 .before in
+    let rail3 = fan1 .before in
+    let rail2 = rail3 .before in
+    let rail1 = rail2 .before in
+    let rail0 = rail1 .before in
+    first-packed _ _ _ _ _ _ _ _ _ _ (rail0 .outside .ensures) (rail1 .outside2 .ensures) (rail2 .outside3 .ensures) (rail3 .outside4 .ensures)
+    (fan1 .slow .ensures) (fan2 .slow2 .ensures) (c .pack .ensures)
 
 pub first-byte-spec : {M : Type 1} → statement M
 first-byte-spec =

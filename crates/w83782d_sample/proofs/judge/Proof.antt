@@ -31,7 +31,15 @@ second-byte-requires-2 : tie.Need-second-byte-requires-2
 second-byte-requires-2 c κs = search needs
 
 returns : tie.Need-returns
-returns c = search (needs, judged)
+returns c =
+    let latched2 = c .before .before in
+    let latched1 = latched2 .before in
+    let real2 = latched1 .before in
+    let real1 = real2 .before in
+    let three = real1 .before .before in
+    let two = three .before in
+    judged _ _ _ _ _ _ _ _ _ (two .before .sensor1-step .ensures) (two .remote-step .ensures) (three .remote-step2 .ensures)
+    (real1 .first-byte .ensures) (real2 .second-byte .ensures) (latched1 .first-byte2 .ensures) (latched2 .second-byte2 .ensures)
 
 pub judge-spec : {M : Type 1} → statement M
 judge-spec =

@@ -19,7 +19,7 @@ shared-slice-read-if1 : tie.Need-shared-slice-read-if1
 shared-slice-read-if1 c = search needs
 
 returns : tie.Need-returns
-returns c = search (needs, outside-high)
+returns c = outside-high _ _ (c .if1 .taken)
 
 mul-result : tie.Need-mul-result
 mul-result c = search needs
@@ -31,7 +31,7 @@ shared-slice-read-result : tie.Need-shared-slice-read-result
 shared-slice-read-result c = search needs
 
 returns-2 : tie.Need-returns-2
-returns-2 c = search (needs, outside-low)
+returns-2 c = outside-low _ _ (c .before .if1 .left)
 
 pub outside-spec : {M : Type 1} → statement M
 outside-spec =

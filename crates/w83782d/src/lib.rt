@@ -19,7 +19,7 @@ use w83782d_latches::Latches;
 use w83782d_plan::set_plan_in;
 use w83782d_readings::Duty;
 use w83782d_readings::Temperature;
-use w83782d_replay::apply_in;
+use w83782d_replay::take_in;
 use w83782d_sample::sample_in;
 
 // The registers, a cell for each, and what they do not hold.
@@ -154,9 +154,7 @@ impl Monitor {
     {
         let mut registers = self.registers;
         let latches = self.latches;
-        let kind = event.kind;
-        let sample = event.sample;
-        let done = apply_in(&mut registers, latches, kind, sample);
+        let done = take_in(&mut registers, latches, event);
         let after = done.latches;
         self = Monitor {
             registers,

@@ -24,7 +24,18 @@ use event::Event;
 pub use fault::Fault;
 use w83782d::{record_at, Record, RECORD_SIZE};
 
-/// The log of a script, or the first line that is none of an event.
+/// The log of a script, or the first line that tells no event.
+///
+/// ```
+/// use w83782d_log::{pack, unpack};
+///
+/// let log = pack(b"# fans 1 and 2: divisor 2\nwrite 47 50\n")?;
+/// assert_eq!(log[..3], [0x01, 0x47, 0x50]);
+/// assert_eq!(unpack(&log)?, "write 47 50\n");
+/// assert_eq!(pack(b"write 47").unwrap_err().to_string(),
+///     "line 1: write takes an index and a value, in hex");
+/// # Ok::<(), w83782d_log::Fault>(())
+/// ```
 pub fn pack(script: &[u8]) -> Result<Vec<u8>, Fault> {
     let mut log = Vec::new();
     for (n, line) in script.split(|&byte| byte == b'\n').enumerate() {

@@ -259,9 +259,12 @@ fn plan(mix: Mix, speeds: Vec<u32>) -> Row {
 fn plan_by_search(speeds: Vec<u32>) -> Row {
     let library = black_box(raw::w83782d_plan as unsafe extern "C" fn(u32) -> u32);
     let second = black_box(reference::plan as fn(u32) -> (u8, u32, u8));
+    let about = About {
+        goal: None,
+        ..Mix::Usual("plan, by search").about("plan, all 255 limits tried for each divisor")
+    };
     row(
-        Mix::Usual("plan, by search")
-            .about("plan, all 255 limits tried for each divisor: no measure"),
+        about,
         vec![pure(speeds)],
         // SAFETY: takes and returns numbers only.
         move |(), &rpm| unsafe { library(rpm) },

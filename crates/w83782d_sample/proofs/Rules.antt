@@ -3,13 +3,15 @@
 use mathlib.Core.Path.{_≡_, refl, ap, ap₂, sym, _∙_}
 use mathlib.Core.Bool.{Bool, true, false, not, _||_}
 use mathlib.Core.List.{List, [], _∷_}
-use Prim.Native.Nat.{ℕ, _+_, _<_, _≤_}
+use Prim.Native.Nat.{ℕ, zero, suc, _+_, _<_, _≤_, max}
 use native.Mathlib.Omega.{arith}
 use borrow.Author.Tests.{eq-eqb, ne-eqb, lt-ltb, le-ltb}
-use lib.Bits.{bitOr}
-use lib.Dec.{ltb, eqb}
+use lib.Bits.{bitOr, or-lt}
+use lib.Dec.{ltb, eqb, lit<}
 use lib.ListN.{getD, length, set}
-use Rattle.bits.specs.Bits.{isOn, word}
+use Rattle.bits.specs.Bits.{isOn, flagOf, word}
+use Rattle.bits.proofs.BitLaws.{or-bit, same-byte}
+use Rattle.bits.proofs.Flags.{word-bit}
 use Rattle.fan.specs.Count.{overLimit}
 use Rattle.sensor.specs.Sensor.{remote, armed, statusOf, outputOf}
 use Rattle.sensor.specs.declared.Mode.{Mode}
@@ -96,35 +98,79 @@ three-one : _≡_ {A = ℕ} 3 1 → ⊥
 three-one z = omega arith
 
 -- ---- the bytes
-pub first-packed : (rs : List ℕ) (r : ℕ) (one two a b c d f g : Bool) → a ≡ isOutside rs 0 → b ≡ isOutside rs 1 → c ≡ isOutside rs 2 → d ≡ isOutside rs 3 → f ≡ isSlow rs 1 → g ≡ isSlow rs 2
-    → r ≡ word (a ∷ b ∷ c ∷ d ∷ one ∷ two ∷ f ∷ g ∷ [])
-    → r ≡ word (isOutside rs 0 ∷ isOutside rs 1 ∷ isOutside rs 2 ∷ isOutside rs 3 ∷ one ∷ two ∷ isSlow rs 1 ∷ isSlow rs 2 ∷ [])
-first-packed rs r one two a b c d f g ea eb ec ed ef eg e = e ∙ rw (ea, eb, ec, ed, ef, eg)
+pub first-packed : (rs : List ℕ) (r : ℕ) (a b c d f g : Bool) → a ≡ isOutside rs 0 → b ≡ isOutside rs 1 → c ≡ isOutside rs 2 → d ≡ isOutside rs 3 → f ≡ isSlow rs 1 → g ≡ isSlow rs 2
+    → r ≡ word (a ∷ b ∷ c ∷ d ∷ false ∷ false ∷ f ∷ g ∷ [])
+    → r ≡ word (isOutside rs 0 ∷ isOutside rs 1 ∷ isOutside rs 2 ∷ isOutside rs 3 ∷ false ∷ false ∷ isSlow rs 1 ∷ isSlow rs 2 ∷ [])
+first-packed rs r a b c d f g ea eb ec ed ef eg e = e ∙ rw (ea, eb, ec, ed, ef, eg)
 
-pub second-packed : (rs : List ℕ) (r : ℕ) (three a b c d : Bool) → a ≡ isOutside rs 4 → b ≡ isOutside rs 5 → c ≡ isOutside rs 6 → d ≡ isSlow rs 3
-    → r ≡ word (a ∷ b ∷ c ∷ d ∷ false ∷ three ∷ false ∷ false ∷ [])
-    → r ≡ word (isOutside rs 4 ∷ isOutside rs 5 ∷ isOutside rs 6 ∷ isSlow rs 3 ∷ false ∷ three ∷ false ∷ false ∷ [])
-second-packed rs r three a b c d ea eb ec ed e = e ∙ rw (ea, eb, ec, ed)
+pub second-packed : (rs : List ℕ) (r : ℕ) (a b c d : Bool) → a ≡ isOutside rs 4 → b ≡ isOutside rs 5 → c ≡ isOutside rs 6 → d ≡ isSlow rs 3
+    → r ≡ word (a ∷ b ∷ c ∷ d ∷ false ∷ false ∷ false ∷ false ∷ [])
+    → r ≡ word (isOutside rs 4 ∷ isOutside rs 5 ∷ isOutside rs 6 ∷ isSlow rs 3 ∷ false ∷ false ∷ false ∷ false ∷ [])
+second-packed rs r a b c d ea eb ec ed e = e ∙ rw (ea, eb, ec, ed)
+
+-- the sensors' bits joined to those of rails and fans, bit by bit
+flag-le : (b : Bool) → flagOf b < 2
+flag-le true = lit< tt
+flag-le false = lit< tt
+
+byte-of : (a b c d e f g h : Bool) → word (a ∷ b ∷ c ∷ d ∷ e ∷ f ∷ g ∷ h ∷ []) < 256
+unfolding word
+byte-of a b c d e f g h = omega (arith, flag-le a, flag-le b, flag-le c, flag-le d, flag-le e, flag-le f, flag-le g, flag-le h)
+
+off-right : (b : Bool) → max (flagOf b) 0 ≡ flagOf b
+off-right true = refl
+off-right false = refl
+
+off-left : (b : Bool) → max 0 (flagOf b) ≡ flagOf b
+off-left true = refl
+off-left false = refl
+
+joined : (a b c d e f g h : Bool) → bitOr (word (a ∷ b ∷ c ∷ d ∷ false ∷ false ∷ g ∷ h ∷ [])) (word (false ∷ false ∷ false ∷ false ∷ e ∷ f ∷ false ∷ false ∷ []))
+    ≡ word (a ∷ b ∷ c ∷ d ∷ e ∷ f ∷ g ∷ h ∷ [])
+joined a b c d e f g h =
+    let x = word (a ∷ b ∷ c ∷ d ∷ false ∷ false ∷ g ∷ h ∷ []) in
+    let y = word (false ∷ false ∷ false ∷ false ∷ e ∷ f ∷ false ∷ false ∷ []) in
+    same-byte (bitOr x y) (word (a ∷ b ∷ c ∷ d ∷ e ∷ f ∷ g ∷ h ∷ [])) (or-lt 8 x y (byte-of a b c d false false g h) (byte-of false false false false e f false false)) (byte-of a b c d e f g h)
+    (λ j hj.
+    or-bit x y j
+    ∙ ap₂ max (word-bit (a ∷ b ∷ c ∷ d ∷ false ∷ false ∷ g ∷ h ∷ []) j) (word-bit (false ∷ false ∷ false ∷ false ∷ e ∷ f ∷ false ∷ false ∷ []) j)
+    ∙ at j hj
+    ∙ sym (word-bit (a ∷ b ∷ c ∷ d ∷ e ∷ f ∷ g ∷ h ∷ []) j))
+  where
+    at : (j : ℕ) → j < 8
+        → max (flagOf (getD (a ∷ b ∷ c ∷ d ∷ false ∷ false ∷ g ∷ h ∷ []) j false)) (flagOf (getD (false ∷ false ∷ false ∷ false ∷ e ∷ f ∷ false ∷ false ∷ []) j false))
+        ≡ flagOf (getD (a ∷ b ∷ c ∷ d ∷ e ∷ f ∷ g ∷ h ∷ []) j false)
+    at zero k = off-right a
+    at (suc zero) k = off-right b
+    at (suc (suc zero)) k = off-right c
+    at (suc (suc (suc zero))) k = off-right d
+    at (suc (suc (suc (suc zero)))) k = off-left e
+    at (suc (suc (suc (suc (suc zero))))) k = off-left f
+    at (suc (suc (suc (suc (suc (suc zero)))))) k = off-right g
+    at (suc (suc (suc (suc (suc (suc (suc zero))))))) k = off-right h
+    at (suc (suc (suc (suc (suc (suc (suc (suc j)))))))) k = absurd (omega arith)
 
 -- high flags that are off
 short : (a b c d e f : Bool) → word (a ∷ b ∷ c ∷ d ∷ e ∷ f ∷ false ∷ false ∷ []) ≡ word (a ∷ b ∷ c ∷ d ∷ e ∷ f ∷ [])
 unfolding word
 short a b c d e f = refl
 
-pub judged : (rs : List ℕ) (l : Latches) (one : First) (two three : Step) (r1 r2 l1 l2 : ℕ)
+pub judged : (rs : List ℕ) (l : Latches) (one : First) (two three : Step) (w1 w2 r1 r2 l1 l2 : ℕ)
     → one ≡ sensor1Step rs (l .sensor1) → two ≡ remoteStep rs 64 (getD (l .remote) 0 armed) → three ≡ remoteStep rs 80 (getD (l .remote) 1 armed)
-    → r1 ≡ word (isOutside rs 0 ∷ isOutside rs 1 ∷ isOutside rs 2 ∷ isOutside rs 3 ∷ one .above ∷ two .above ∷ isSlow rs 1 ∷ isSlow rs 2 ∷ [])
-    → r2 ≡ word (isOutside rs 4 ∷ isOutside rs 5 ∷ isOutside rs 6 ∷ isSlow rs 3 ∷ false ∷ three .above ∷ false ∷ false ∷ [])
-    → l1 ≡ word (isOutside rs 0 ∷ isOutside rs 1 ∷ isOutside rs 2 ∷ isOutside rs 3 ∷ one .status .latched ∷ two .latched ∷ isSlow rs 1 ∷ isSlow rs 2 ∷ [])
-    → l2 ≡ word (isOutside rs 4 ∷ isOutside rs 5 ∷ isOutside rs 6 ∷ isSlow rs 3 ∷ false ∷ three .latched ∷ false ∷ false ∷ [])
-    → Judges rs l (record { real1 = r1; real2 = r2; latched1 = l1; latched2 = l2; latches = record { chassis = l .chassis; sensor1 = one .status .mark; remote = two .remote ∷ three .remote ∷ [] } })
+    → w1 ≡ word (isOutside rs 0 ∷ isOutside rs 1 ∷ isOutside rs 2 ∷ isOutside rs 3 ∷ false ∷ false ∷ isSlow rs 1 ∷ isSlow rs 2 ∷ [])
+    → w2 ≡ word (isOutside rs 4 ∷ isOutside rs 5 ∷ isOutside rs 6 ∷ isSlow rs 3 ∷ false ∷ false ∷ false ∷ false ∷ [])
+    → r1 ≡ word (false ∷ false ∷ false ∷ false ∷ one .above ∷ two .above ∷ false ∷ false ∷ [])
+    → r2 ≡ word (false ∷ false ∷ false ∷ false ∷ false ∷ three .above ∷ false ∷ false ∷ [])
+    → l1 ≡ word (false ∷ false ∷ false ∷ false ∷ one .status .latched ∷ two .latched ∷ false ∷ false ∷ [])
+    → l2 ≡ word (false ∷ false ∷ false ∷ false ∷ false ∷ three .latched ∷ false ∷ false ∷ [])
+    → Judges rs l (record { real1 = bitOr w1 r1; real2 = bitOr w2 r2; latched1 = bitOr w1 l1; latched2 = bitOr w2 l2; latches = record { chassis = l .chassis; sensor1 = one .status .mark; remote = two .remote ∷ three .remote ∷ [] } })
 unfolding steppedLatches
-judged rs l one two three r1 r2 l1 l2 e1 e2 e3 f1 f2 g1 g2 =
+judged rs l one two three w1 w2 r1 r2 l1 l2 e1 e2 e3 d1 d2 f1 f2 g1 g2 =
     record {
-      real1 = f1 ∙ simp (above-1 rs l one e1, above-n rs l 2 two-one two e2);
-      real2 = f2 ∙ simp (above-n rs l 3 three-one three e3) (short _ _ _ _ _ _);
-      latched1 = g1 ∙ simp (status-1 rs l one e1, latched-n rs l 2 two-one two e2);
-      latched2 = g2 ∙ simp (latched-n rs l 3 three-one three e3) (short _ _ _ _ _ _);
+      real1 = ap₂ bitOr d1 f1 ∙ joined _ _ _ _ (one .above) (two .above) _ _ ∙ simp (above-1 rs l one e1, above-n rs l 2 two-one two e2);
+      real2 = ap₂ bitOr d2 f2 ∙ joined _ _ _ _ false (three .above) false false ∙ simp (above-n rs l 3 three-one three e3) (short _ _ _ _ _ _);
+      latched1 = ap₂ bitOr d1 g1 ∙ joined _ _ _ _ (one .status .latched) (two .latched) _ _ ∙ simp (status-1 rs l one e1, latched-n rs l 2 two-one two e2);
+      latched2 = ap₂ bitOr d2 g2 ∙ joined _ _ _ _ false (three .latched) false false ∙ simp (latched-n rs l 3 three-one three e3) (short _ _ _ _ _ _);
       latches = simp (status-1 rs l one e1, remote-n rs l 2 two-one two e2, remote-n rs l 3 three-one three e3);
     }
 

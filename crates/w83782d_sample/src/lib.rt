@@ -193,28 +193,28 @@ fn remote_step(s: &[u8], bank: usize, remote: Remote) -> Step
     }
 }
 
-// ---- The bits of 41h and 59h, and of 42h and 5Ah, with what the sensors give
+// ---- The bits of 41h and 59h, and of 42h and 5Ah: rails and fans, which latch and ring alike, then the sensors
 
-fn first_byte(s: &[u8], one: bool, two: bool) -> u8
+fn first_byte(s: &[u8]) -> u8
     requires { ⌜ length (now s) ≡ cells ⌝ }
-    ensures { λ r. ⌜ r ≡ word (isOutside (now (s .entry)) 0 ∷ isOutside (now (s .entry)) 1 ∷ isOutside (now (s .entry)) 2 ∷ isOutside (now (s .entry)) 3 ∷ one ∷ two ∷ isSlow (now (s .entry)) 1 ∷ isSlow (now (s .entry)) 2 ∷ []) ⌝ }
+    ensures { λ r. ⌜ r ≡ word (isOutside (now (s .entry)) 0 ∷ isOutside (now (s .entry)) 1 ∷ isOutside (now (s .entry)) 2 ∷ isOutside (now (s .entry)) 3 ∷ false ∷ false ∷ isSlow (now (s .entry)) 1 ∷ isSlow (now (s .entry)) 2 ∷ []) ⌝ }
 {
     pack(
         outside(s, 0),
         outside(s, 1),
         outside(s, 2),
         outside(s, 3),
-        one,
-        two,
+        false,
+        false,
         slow(s, 1),
         slow(s, 2),
     )
 }
 
-// The chassis bit is the latch itself and not stored.
-fn second_byte(s: &[u8], three: bool) -> u8
+// The chassis bit, bit 4, is the latch itself and not stored.
+fn second_byte(s: &[u8]) -> u8
     requires { ⌜ length (now s) ≡ cells ⌝ }
-    ensures { λ r. ⌜ r ≡ word (isOutside (now (s .entry)) 4 ∷ isOutside (now (s .entry)) 5 ∷ isOutside (now (s .entry)) 6 ∷ isSlow (now (s .entry)) 3 ∷ false ∷ three ∷ false ∷ false ∷ []) ⌝ }
+    ensures { λ r. ⌜ r ≡ word (isOutside (now (s .entry)) 4 ∷ isOutside (now (s .entry)) 5 ∷ isOutside (now (s .entry)) 6 ∷ isSlow (now (s .entry)) 3 ∷ false ∷ false ∷ false ∷ false ∷ []) ⌝ }
 {
     pack(
         outside(s, 4),
@@ -222,10 +222,17 @@ fn second_byte(s: &[u8], three: bool) -> u8
         outside(s, 6),
         slow(s, 3),
         false,
-        three,
+        false,
         false,
         false,
     )
+}
+
+// Sensors 1 and 2 are bits 4 and 5 of the first byte, sensor 3 is bit 5 of the second.
+fn sensors(four: bool, five: bool) -> u8
+    ensures { λ r. ⌜ r ≡ word (false ∷ false ∷ false ∷ false ∷ four ∷ five ∷ false ∷ false ∷ []) ⌝ }
+{
+    pack(false, false, false, false, four, five, false, false)
 }
 
 // ---- Real-time bits, status, marks and OVT, from the readings stored
@@ -249,10 +256,12 @@ fn judge(s: &[u8], l: Latches) -> Judged
     let two = remote_step(s, BANK_1, p);
     let three = remote_step(s, BANK_2, q);
     let status = one.status;
-    let real1 = first_byte(s, one.above, two.above);
-    let real2 = second_byte(s, three.above);
-    let latched1 = first_byte(s, status.latched, two.latched);
-    let latched2 = second_byte(s, three.latched);
+    let first = first_byte(s);
+    let second = second_byte(s);
+    let real1 = first | sensors(one.above, two.above);
+    let real2 = second | sensors(false, three.above);
+    let latched1 = first | sensors(status.latched, two.latched);
+    let latched2 = second | sensors(false, three.latched);
     let sensor1 = status.mark;
     let a = two.remote;
     let b = three.remote;

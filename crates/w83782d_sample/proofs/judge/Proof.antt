@@ -24,11 +24,17 @@ first-byte-requires c κs = search needs
 second-byte-requires : tie.Need-second-byte-requires
 second-byte-requires c κs = search needs
 
-first-byte-requires-2 : tie.Need-first-byte-requires-2
-first-byte-requires-2 c κs = search needs
+sensors-requires : tie.Need-sensors-requires
+sensors-requires c κs = search needs
 
-second-byte-requires-2 : tie.Need-second-byte-requires-2
-second-byte-requires-2 c κs = search needs
+sensors-requires-2 : tie.Need-sensors-requires-2
+sensors-requires-2 c κs = search needs
+
+sensors-requires-3 : tie.Need-sensors-requires-3
+sensors-requires-3 c κs = search needs
+
+sensors-requires-4 : tie.Need-sensors-requires-4
+sensors-requires-4 c κs = search needs
 
 returns : tie.Need-returns
 returns c =
@@ -36,10 +42,12 @@ returns c =
     let latched1 = latched2 .before in
     let real2 = latched1 .before in
     let real1 = real2 .before in
-    let three = real1 .before .before in
+    let second = real1 .before in
+    let first = second .before in
+    let three = first .before .before in
     let two = three .before in
-    judged _ _ _ _ _ _ _ _ _ (two .before .sensor1-step .ensures) (two .remote-step .ensures) (three .remote-step2 .ensures)
-    (real1 .first-byte .ensures) (real2 .second-byte .ensures) (latched1 .first-byte2 .ensures) (latched2 .second-byte2 .ensures)
+    judged _ _ _ _ _ _ _ _ _ _ _ (two .before .sensor1-step .ensures) (two .remote-step .ensures) (three .remote-step2 .ensures)
+    (first .first-byte .ensures) (second .second-byte .ensures) (real1 .sensors .ensures) (real2 .sensors2 .ensures) (latched1 .sensors3 .ensures) (latched2 .sensors4 .ensures)
 
 pub judge-spec : {M : Type 1} → statement M
 judge-spec =
@@ -52,6 +60,8 @@ judge-spec =
     remote-step-requires-2
     first-byte-requires
     second-byte-requires
-    first-byte-requires-2
-    second-byte-requires-2
+    sensors-requires
+    sensors-requires-2
+    sensors-requires-3
+    sensors-requires-4
     returns)

@@ -10,8 +10,7 @@ use lib.ListN.{length, set}
 use Rattle.bits.specs.Bits.{isOn, change, changes}
 use Rattle.w83782d_map.specs.Map.{cells, presentAt, configuration, interruptStatus1, interruptStatus2}
 use Rattle.w83782d_map.specs.Registers.{reachOf, writeAnswer, powerOnRegisters, resetRegisters, storedBits, shownOf}
-use Rattle.w83782d_map.specs.Parts.{acceptedBits, restoredRegisters, restoredIn}
-use Rattle.w83782d_map.proofs.Cells.{accepted-bits}
+use Rattle.w83782d_map.specs.Parts.{restoredRegisters, restoredIn}
 use Rattle.w83782d_map.proofs.Cases.{restored-in}
 use Rattle.w83782d_latches.specs.declared.Latches.{Latches}
 use Rattle.w83782d_latches.specs.Effects.{powerOnLatches, writtenLatches, readLatches}
@@ -39,9 +38,9 @@ module _ (c v : ℕ) (b : Bool) (e : b ≡ (eqb c configuration && isOn v 7)) wh
   unfolding writtenRegisters
   write-reset rs ts h t f = simp (← e, t) (f ∙ sym (restored-in true rs h) ∙ restored-reset rs)
 
-  pub write-store : (rs ts : List ℕ) (m : ℕ) → writeAnswer c ≡ 0 → b ≡ false → m ≡ acceptedBits c → ts ≡ changes rs (change c m v ∷ []) → ts ≡ writtenRegisters rs c v
+  pub write-store : (rs ts : List ℕ) (m : ℕ) → b ≡ false → m ≡ storedBits c → ts ≡ changes rs (change c m v ∷ []) → ts ≡ writtenRegisters rs c v
   unfolding writtenRegisters
-  write-store rs ts m a t f g = simp (← e, t, ← accepted-bits c a, ← f, g)
+  write-store rs ts m t f g = simp (← e, t, ← f, g)
 
 module _ (rs : List ℕ) (l : Latches) (i v : ℕ) where
   pub write-short : (length rs ≡ cells → ⊥) → written (state rs l) 8 ≡ sized rs l (writeOf (state rs l) i v)

@@ -3,7 +3,6 @@
 ghost use mathlib.Core.Path.{_≡_};
 ghost use lib.ListN.{length};
 ghost use Rattle.w83782d_map.specs.Map.{cells};
-ghost use Rattle.w83782d_map.specs.Registers.{writeAnswer};
 ghost use Rattle.w83782d_latches.specs.Effects.{powerOnLatches};
 ghost use Rattle.w83782d_bus.specs.Bus.{state, powerOn, writtenRegisters, writeOf, written, readRegisters, readOf, sized, sizedRead, wroteIn, seenIn};
 use bits::store;
@@ -66,7 +65,7 @@ pub fn power_on_in(s: &mut [u8]) -> Wrote
 // ---- Bus write
 
 fn write_registers(s: &mut [u8], cell: usize, value: u8)
-    requires { ⌜ (length (now s) ≡ cells) × (writeAnswer cell ≡ 0) ⌝ }
+    requires { ⌜ length (now s) ≡ cells ⌝ }
     ensures { λ r. ⌜ now (s .exit) ≡ writtenRegisters (now (s .entry)) cell value ⌝ }
 {
     if is_command(CONFIGURATION, cell, value) {

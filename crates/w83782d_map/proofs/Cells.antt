@@ -1,23 +1,23 @@
 -- The cells that the code reaches, and its sets of cells and values by their exceptions, are those of the rows.
 -- One computed test over all cells for the sets; the values by their arms. Assumes nothing.
 use mathlib.Core.Path.{_≡_, refl, ap, sym, _∙_}
-use mathlib.Core.Bool.{Bool, true, false, not, _&&_, Bool·beq}
+use mathlib.Core.Bool.{Bool, true, false, not, _&&_, and-false, Bool·beq}
 use mathlib.Core.List.{List, [], _∷_}
 use Prim.Native.Nat.{ℕ, _+_, _-_, _/_, _%_, _^_, _<_, _≤_}
 use native.Mathlib.Decide.{decLt}
 use native.Mathlib.Omega.{arith}
 use borrow.Author.Tests.{eq-eqb, ne-eqb, lt-ltb, le-ltb, le-leb, lt-leb, eqb-true, eqb-false, ltb-true, ltb-false, not-true, not-false}
 use lib.Bits.{bitAnd}
-use lib.Dec.{T, eqb, ltb, leb}
+use lib.Dec.{T, eqb, ltb, ltb→lt, leb}
 use lib.ListN.{getD}
 use Rattle.bits.specs.Bits.{choose, bit, isOn}
-use Rattle.bits.specs.Map.{tabulate}
+use Rattle.bits.specs.Map.{Row, tabulate, writableBits}
 use Rattle.bits.proofs.Every.{both, both-left, both-right, every-at, beq-same}
 use Rattle.bits.proofs.ChangeLaws.{and-left}
 use Rattle.bits.proofs.Match.{NoKey, last-arm}
-use Rattle.w83782d_map.specs.Map.{cells, rows, keptByReset, presentAt, writableAt, powerOnAt, keptAt, bankSelect}
+use Rattle.w83782d_map.specs.Map.{cells, rows, keptByReset, presentAt, writableAt, powerOnAt, keptAt, configuration, chassisClear, bankSelect}
 use Rattle.w83782d_map.specs.Registers.{cellOf, reachOf, writeAnswer, storedBits}
-use Rattle.w83782d_map.specs.Parts.{inSet, acceptedBits}
+use Rattle.w83782d_map.specs.Parts.{inSet}
 
 -- ---- the cell of an index
 pub reached : (rs : List ℕ) (i s c : ℕ) → s ≡ getD rs bankSelect 0 → c ≡ cellOf (bitAnd s 7) i → c ≡ reachOf rs i
@@ -154,26 +154,41 @@ present-cell c e = ltb-true c cells (and-left (ltb c cells) _ e)
 
 -- ---- the values of a cell, arm by arm; the keys of all arms, the last arm's first
 abbrev pub storedKeys : List (List ℕ)
-storedKeys =
-    (84 ∷ 86 ∷ []) ∷ (68 ∷ 70 ∷ []) ∷ (66 ∷ 82 ∷ []) ∷ (61 ∷ []) ∷ (57 ∷ []) ∷ (55 ∷ []) ∷ (46 ∷ []) ∷ (44 ∷ []) ∷ (43 ∷ []) ∷ (40 ∷ 60 ∷ []) ∷ (39 ∷ []) ∷ (38 ∷ [])
-    ∷ (36 ∷ []) ∷ (32 ∷ []) ∷ []
+storedKeys = (84 ∷ 86 ∷ []) ∷ (68 ∷ 70 ∷ []) ∷ (83 ∷ 85 ∷ []) ∷ (67 ∷ 69 ∷ []) ∷ (66 ∷ 82 ∷ []) ∷ (61 ∷ []) ∷ (58 ∷ 63 ∷ []) ∷ (59 ∷ 62 ∷ []) ∷ (57 ∷ []) ∷ (55 ∷ []) ∷ (46 ∷ []) ∷ (44 ∷ []) ∷ (43 ∷ []) ∷ (40 ∷ 60 ∷ []) ∷ (39 ∷ []) ∷ (36 ∷ []) ∷ (35 ∷ 42 ∷ 45 ∷ 54 ∷ []) ∷ (32 ∷ []) ∷ (26 ∷ 28 ∷ []) ∷ (25 ∷ 27 ∷ 29 ∷ []) ∷ (20 ∷ 22 ∷ 24 ∷ []) ∷ (19 ∷ 21 ∷ 23 ∷ []) ∷ (12 ∷ 14 ∷ 16 ∷ 18 ∷ []) ∷ (11 ∷ 13 ∷ 15 ∷ 17 ∷ []) ∷ []
 
-pub accepted-bits : (c : ℕ) → writeAnswer c ≡ 0 → acceptedBits c ≡ storedBits c
-unfolding acceptedBits
-accepted-bits c e = rw e
+-- no row reaches 60h
+belowAlias : List Row → Bool
+belowAlias [] = true
+belowAlias (r ∷ rs) = both (ltb (r .span .last) 0x60) (belowAlias rs)
 
-stored-in : (c : ℕ) → c < cells → NoKey storedKeys c → 0xFF ≡ acceptedBits c
-unfolding acceptedBits writeAnswer presentAt writableAt rows
-stored-in c h n = last-arm acceptedBits 0xFF storedKeys cells tt c h n
+no-row : (b i : ℕ) (rs : List Row) → T (belowAlias rs) → 0x60 ≤ i → writableBits rs b i ≡ 0
+unfolding belowAlias
+no-row b i [] t h = refl
+no-row b i (r ∷ rs) t h =
+    let l : r .span .last < 0x60 = ltb→lt (r .span .last) 0x60 (both-left (ltb (r .span .last) 0x60) (belowAlias rs) t) in
+    let n : leb i (r .span .last) ≡ false = lt-leb i (r .span .last) (omega arith) in
+    simp (n, and-false, no-row b i rs (both-right (ltb (r .span .last) 0x60) (belowAlias rs) t) h)
 
-stored-out : (c : ℕ) → cells ≤ c → 0xFF ≡ acceptedBits c
-unfolding acceptedBits
-stored-out c h = simp (← answer-out c h)
+stored-in : (c : ℕ) → c < cells → NoKey storedKeys c → 0x00 ≡ storedBits c
+unfolding writableAt rows
+stored-in c h n = last-arm storedBits 0x00 storedKeys cells tt c h n
 
-pub stored-rest : (c : ℕ) → NoKey storedKeys c → 0xFF ≡ acceptedBits c
+stored-out : (c : ℕ) → cells ≤ c → 0x00 ≡ storedBits c
+unfolding writableAt rows belowAlias
+stored-out c h =
+    simp (
+      le-ltb c 64 (omega arith),
+      le-ltb c 80 (omega arith),
+      le-ltb c 96 (omega arith),
+      ne-eqb c configuration (λ e. omega arith),
+      ne-eqb c chassisClear (λ e. omega arith),
+    )
+    (sym (no-row 4 (0x50 + (c - 96)) rows tt (omega arith)))
+
+pub stored-rest : (c : ℕ) → NoKey storedKeys c → 0x00 ≡ storedBits c
 stored-rest c n = go (decLt c cells)
   where
-    go : Dec (c < cells) → 0xFF ≡ acceptedBits c
+    go : Dec (c < cells) → 0x00 ≡ storedBits c
     go (yes h) = stored-in c h n
     go (no k) = stored-out c (omega arith)
 

@@ -2,20 +2,16 @@
 use mathlib.Core.Bool.{Bool, true, false}
 use mathlib.Core.List.{List}
 use Prim.Native.Nat.{ℕ, _-_}
-use lib.Dec.{ltb, eqb}
+use lib.Dec.{ltb}
 use lib.ListN.{getD}
 use Rattle.bits.specs.Bits.{choose, isOn}
 use Rattle.bits.specs.Map.{tabulate}
 use Rattle.w83782d_map.specs.Map.{cells, powerOnAt, keptAt}
-use Rattle.w83782d_map.specs.Registers.{writeAnswer, storedBits, fits}
+use Rattle.w83782d_map.specs.Registers.{fits}
 
 -- a cell's bit in two words
 abbrev pub inSet : ℕ → ℕ → ℕ → Bool
 inSet set banked c = choose (ltb c 64) (isOn set c) (isOn banked (c - 64))
-
--- what a write to a cell stores; all bits where it is refused, so that every cell has a value
-unfoldable pub acceptedBits : ℕ → ℕ
-acceptedBits c = choose (eqb (writeAnswer c) 0) (storedBits c) 0xFF
 
 -- power-on and reset by one loop: a reset keeps some cells
 abbrev pub restoredByte : Bool → ℕ → ℕ → ℕ

@@ -7,8 +7,8 @@ ghost use lib.Dec.{eqb};
 ghost use lib.ListN.{length, getD};
 ghost use Rattle.bits.specs.Bits.{isOn};
 ghost use Rattle.w83782d_map.specs.Map.{cells, presentAt, powerOnAt};
-ghost use Rattle.w83782d_map.specs.Registers.{cellOf, reachOf, writeAnswer, withChassis, vendorByte, shownOf};
-ghost use Rattle.w83782d_map.specs.Parts.{inSet, acceptedBits, restoredByte, restoredRegisters, restoredIn};
+ghost use Rattle.w83782d_map.specs.Registers.{cellOf, reachOf, writeAnswer, storedBits, withChassis, vendorByte, shownOf};
+ghost use Rattle.w83782d_map.specs.Parts.{inSet, restoredByte, restoredRegisters, restoredIn};
 use bits::Bit;
 use bits::is_on;
 
@@ -24,11 +24,51 @@ const READ_ONLY: u8 = 2;
 
 pub const CELLS: usize = 112;
 
+const VCOREA_HIGH: usize = 0x2b - 0x20;
+
+const VCOREA_LOW: usize = 0x2c - 0x20;
+
+const VINR0_HIGH: usize = 0x2d - 0x20;
+
+const VINR0_LOW: usize = 0x2e - 0x20;
+
+const PLUS_3_3_HIGH: usize = 0x2f - 0x20;
+
+const PLUS_3_3_LOW: usize = 0x30 - 0x20;
+
+const PLUS_5_HIGH: usize = 0x31 - 0x20;
+
+const PLUS_5_LOW: usize = 0x32 - 0x20;
+
+const PLUS_12_HIGH: usize = 0x33 - 0x20;
+
+const PLUS_12_LOW: usize = 0x34 - 0x20;
+
+const MINUS_12_HIGH: usize = 0x35 - 0x20;
+
+const MINUS_12_LOW: usize = 0x36 - 0x20;
+
+const MINUS_5_HIGH: usize = 0x37 - 0x20;
+
+const MINUS_5_LOW: usize = 0x38 - 0x20;
+
+const SENSOR_1_OVER: usize = 0x39 - 0x20;
+
+const SENSOR_1_HYSTERESIS: usize = 0x3a - 0x20;
+
+const FAN_1_LIMIT: usize = 0x3b - 0x20;
+
+const FAN_2_LIMIT: usize = 0x3c - 0x20;
+
+const FAN_3_LIMIT: usize = 0x3d - 0x20;
+
 pub const CONFIGURATION: usize = 0x40 - 0x20;
 
 pub const INTERRUPT_STATUS_1: usize = 0x41 - 0x20;
 
 pub const INTERRUPT_STATUS_2: usize = 0x42 - 0x20;
+
+const SMI_MASK_1: usize = 0x43 - 0x20;
 
 const SMI_MASK_2: usize = 0x44 - 0x20;
 
@@ -51,6 +91,8 @@ const GPO_CONTROL: usize = 0x4d - 0x20;
 const BANK_SELECT: usize = 0x4e - 0x20;
 
 const VENDOR_ID: usize = 0x4f - 0x20;
+
+const BEEP_CONTROL_1: usize = 0x56 - 0x20;
 
 const BEEP_CONTROL_2: usize = 0x57 - 0x20;
 
@@ -182,14 +224,21 @@ pub fn answer_to_write(cell: usize) -> u8
     ACCEPTED
 }
 
-// The bits that an accepted write to a cell stores; all where it is refused.
+// The bits that a write to a cell stores: none where it is refused, and none of 46h, which is a command. No arm has two
+// neighbours, which would make it a range and the match no table.
 pub fn stored_bits(cell: usize) -> u8
-    ensures { λ r. ⌜ r ≡ acceptedBits cell ⌝ }
+    ensures { λ r. ⌜ r ≡ storedBits cell ⌝ }
 {
     match cell {
+        VCOREA_HIGH | VINR0_HIGH | PLUS_3_3_HIGH | PLUS_5_HIGH => 0b1111_1111,
+        VCOREA_LOW | VINR0_LOW | PLUS_3_3_LOW | PLUS_5_LOW => 0b1111_1111,
+        PLUS_12_HIGH | MINUS_12_HIGH | MINUS_5_HIGH => 0b1111_1111,
+        PLUS_12_LOW | MINUS_12_LOW | MINUS_5_LOW => 0b1111_1111,
+        SENSOR_1_OVER | FAN_1_LIMIT | FAN_3_LIMIT => 0b1111_1111,
+        SENSOR_1_HYSTERESIS | FAN_2_LIMIT => 0b1111_1111,
         CONFIGURATION => 0b0100_1011,
+        SMI_MASK_1 | REMOTE_ADDRESS | GPO_CONTROL | BEEP_CONTROL_1 => 0b1111_1111,
         SMI_MASK_2 => 0b0011_1111,
-        CHASSIS_CLEAR => 0b0000_0000,
         VID_FAN_DIVISOR => 0b1111_0000,
         BUS_ADDRESS | PWM_CLOCK => 0b0111_1111,
         PIN_CONTROL => 0b1111_1100,
@@ -197,11 +246,15 @@ pub fn stored_bits(cell: usize) -> u8
         BANK_SELECT => 0b1000_0111,
         BEEP_CONTROL_2 => 0b1011_1111,
         DIODE_SELECTION => 0b0111_0000,
+        PWM_DUTY_1 | PWM_DUTY_3 => 0b1111_1111,
+        PWM_DUTY_2 | PWM_DUTY_4 => 0b1111_1111,
         VBAT_FAN_DIVISOR => 0b1110_1111,
         SENSOR_2_CONFIGURATION | SENSOR_3_CONFIGURATION => 0b0001_1011,
+        SENSOR_2_HYSTERESIS | SENSOR_2_OVER => 0b1111_1111,
+        SENSOR_3_HYSTERESIS | SENSOR_3_OVER => 0b1111_1111,
         SENSOR_2_HYSTERESIS_LOW | SENSOR_2_OVER_LOW => 0b1000_0000,
         SENSOR_3_HYSTERESIS_LOW | SENSOR_3_OVER_LOW => 0b1000_0000,
-        _ => 0b1111_1111,
+        _ => 0b0000_0000,
     }
 }
 

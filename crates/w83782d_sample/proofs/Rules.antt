@@ -1,11 +1,11 @@
 -- The definitions of Sample.antt by their cases, over plain variables: what each branch of the code knows gives what it ensures.
 -- Assumes nothing.
-use mathlib.Core.Path.{_≡_, refl, ap, ap₂, sym, _∙_}
-use mathlib.Core.Bool.{Bool, true, false, not, _||_}
+use mathlib.Core.Path.{_≡_, refl, ap₂, sym, _∙_}
+use mathlib.Core.Bool.{Bool, true, false, not}
 use mathlib.Core.List.{List, [], _∷_}
-use Prim.Native.Nat.{ℕ, zero, suc, _+_, _<_, _≤_, max}
+use Prim.Native.Nat.{ℕ, zero, suc, _+_, _<_, max}
 use native.Mathlib.Omega.{arith}
-use borrow.Author.Tests.{eq-eqb, ne-eqb, lt-ltb, le-ltb}
+use borrow.Author.Tests.{eq-eqb, ne-eqb}
 use lib.Bits.{bitOr, or-lt}
 use lib.Dec.{ltb, eqb, lit<}
 use lib.ListN.{getD, length, set}
@@ -23,25 +23,16 @@ use Rattle.samples.specs.declared.Sample.{Sample}
 use Rattle.w83782d_latches.specs.declared.Latches.{Latches}
 use Rattle.w83782d_map.specs.Map.{cells, interruptStatus1, interruptStatus2, realTimeStatus2}
 use Rattle.w83782d_bus.specs.Bus.{state, written, sized}
-use Rattle.w83782d_store.specs.Stored.{voltage, fanCount, sensor1Value, bankCell, storedReadings, sampleAnswer}
+use Rattle.w83782d_store.specs.Stored.{fanCount, sensor1Value, bankCell, storedReadings, sampleAnswer}
 use Rattle.w83782d_store.specs.Parts.{storedIn}
 use Rattle.w83782d_store.proofs.Rules.{stored-in}
 use Rattle.w83782d_sample.specs.declared.First.{First}
 use Rattle.w83782d_sample.specs.declared.Step.{Step}
 use Rattle.w83782d_sample.specs.declared.Judged.{Judged}
-use Rattle.w83782d_sample.specs.Sample.{highLimit, lowLimit, fanLimit, sensor1Over, sensor1Hysteresis, ovtProperty, realTimeStatus1, modeIf, isOutside, wholeLevelAt, halfLevelAt, aboveAt, belowAt, isAbove, isBelow, isSlow, statusMode, outputMode, remoteOf, statusAt, outputAt, remoteAfter, judgedRegisters, steppedLatches, sampleOf}
+use Rattle.w83782d_sample.specs.Sample.{fanLimit, sensor1Over, sensor1Hysteresis, ovtProperty, realTimeStatus1, modeIf, isOutside, wholeLevelAt, halfLevelAt, aboveAt, belowAt, isAbove, isBelow, isSlow, statusMode, outputMode, remoteOf, statusAt, outputAt, remoteAfter, judgedRegisters, steppedLatches, sampleOf}
 use Rattle.w83782d_sample.specs.Parts.{sensor1Step, remoteStep, Judges}
 
 -- ---- conditions
-module _ (rs : List ℕ) (i : ℕ) where
-  pub outside-high : getD rs (highLimit i) 0 < getD rs (voltage i) 0 → true ≡ isOutside rs i
-  unfolding isOutside
-  outside-high h = simp (lt-ltb (getD rs (highLimit i) 0) (getD rs (voltage i) 0) h)
-
-  pub outside-low : getD rs (voltage i) 0 ≤ getD rs (highLimit i) 0 → ltb (getD rs (voltage i) 0) (getD rs (lowLimit i) 0) ≡ isOutside rs i
-  unfolding isOutside
-  outside-low h = simp (le-ltb (getD rs (highLimit i) 0) (getD rs (voltage i) 0) h)
-
 pub is-slow : (rs : List ℕ) (f : ℕ) (r : Bool) → r ≡ overLimit (getD rs (fanCount f) 0) (getD rs (fanLimit f) 0) → r ≡ isSlow rs f
 unfolding isSlow
 is-slow rs f r e = e

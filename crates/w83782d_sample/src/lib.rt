@@ -75,15 +75,13 @@ const LIMITS: usize = 0x3a - 0x20;
 
 // ---- Conditions
 
+// Both limits are looked at, without a branch for each.
 fn outside(s: &[u8], i: usize) -> bool
     requires { ⌜ (length (now s) ≡ cells) × (i < 7) ⌝ }
     ensures { λ r. ⌜ r ≡ isOutside (now (s .entry)) i ⌝ }
 {
     let v = s[VOLTAGES + i];
-    if s[HIGH_LIMITS + 2 * i] < v {
-        return true;
-    }
-    v < s[LOW_LIMITS + 2 * i]
+    (s[HIGH_LIMITS + 2 * i] < v) | (v < s[LOW_LIMITS + 2 * i])
 }
 
 fn slow(s: &[u8], f: usize) -> bool

@@ -1,5 +1,6 @@
+use mathlib.Core.Path.{refl}
 use borrow.Author.Needs.{needs}
-use Rattle.w83782d_sample.proofs.Rules.{outside-high, outside-low}
+use Rattle.w83782d_sample.specs.Sample.{isOutside}
 use Rattle.w83782d_sample.proofs.outside.Statement.{statement}
 use Rattle.w83782d_sample.proofs.outside.Tie as tie
 
@@ -8,18 +9,6 @@ add-v c = search needs
 
 shared-slice-read-v : tie.Need-shared-slice-read-v
 shared-slice-read-v c = search needs
-
-mul-if1 : tie.Need-mul-if1
-mul-if1 c = search needs
-
-add-if1 : tie.Need-add-if1
-add-if1 c = search needs
-
-shared-slice-read-if1 : tie.Need-shared-slice-read-if1
-shared-slice-read-if1 c = search needs
-
-returns : tie.Need-returns
-returns c = outside-high _ _ (c .if1 .taken)
 
 mul-result : tie.Need-mul-result
 mul-result c = search needs
@@ -30,8 +19,18 @@ add-result c = search needs
 shared-slice-read-result : tie.Need-shared-slice-read-result
 shared-slice-read-result c = search needs
 
-returns-2 : tie.Need-returns-2
-returns-2 c = outside-low _ _ (c .before .if1 .left)
+mul-result-2 : tie.Need-mul-result-2
+mul-result-2 c = search needs
+
+add-result-2 : tie.Need-add-result-2
+add-result-2 c = search needs
+
+shared-slice-read-result-2 : tie.Need-shared-slice-read-result-2
+shared-slice-read-result-2 c = search needs
+
+returns : tie.Need-returns
+unfolding isOutside
+returns c = refl
 
 pub outside-spec : {M : Type 1} → statement M
 outside-spec =
@@ -39,11 +38,10 @@ outside-spec =
     (tie.spec
     add-v
     shared-slice-read-v
-    mul-if1
-    add-if1
-    shared-slice-read-if1
-    returns
     mul-result
     add-result
     shared-slice-read-result
-    returns-2)
+    mul-result-2
+    add-result-2
+    shared-slice-read-result-2
+    returns)

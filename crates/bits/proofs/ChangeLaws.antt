@@ -31,6 +31,10 @@ pub and-right : (a b : Bool) → (a && b) ≡ true → b ≡ true
 and-right true b e = e
 and-right false b e = absurd (false≢true e)
 
+-- ---- a byte stored beyond the list
+pub put-out : (rs : List ℕ) (at b : ℕ) → length rs ≤ at → rs ≡ set rs at b
+put-out rs at b h = sym (set-out rs at b h)
+
 -- ---- changes
 pub changes-length : (cs : List Change) (rs : List ℕ) → length (changes rs cs) ≡ length rs
 unfolding changes

@@ -2,7 +2,7 @@
 // Nothing here is of one chip. A cell beyond the slice reads 0, and a store to it does nothing.
 ghost use mathlib.Core.Path.{_≡_};
 ghost use mathlib.Core.List.{[], _∷_};
-ghost use lib.ListN.{getD};
+ghost use lib.ListN.{getD, set};
 ghost use Rattle.bits.specs.Bits.{bit, numberOf, isOn, mergeOf, change, changes, flagOf, word};
 
 // The number of a bit of a byte: no other can be written.
@@ -65,6 +65,15 @@ pub fn cell(s: &[u8], at: usize) -> u8
         return s[at];
     }
     0
+}
+
+// A byte stored in a cell.
+pub fn put(s: &mut [u8], at: usize, byte: u8)
+    ensures { λ r. ⌜ now (s .exit) ≡ set (now (s .entry)) at byte ⌝ }
+{
+    if at < s.len() {
+        s[at] = byte;
+    }
 }
 
 // The bits of the mask, in one cell, from the byte.

@@ -59,13 +59,13 @@ module _ (rs : List ℕ) (l : Latches) (i v : ℕ) where
 -- ---- a read
 -- what a read leaves
 module _ (rs : List ℕ) (c : ℕ) where
-  pub clears-1 : c ≡ interruptStatus1 → set rs interruptStatus1 0 ≡ readRegisters rs c
+  pub clears-1 : (ts : List ℕ) → c ≡ interruptStatus1 → ts ≡ set rs interruptStatus1 0 → ts ≡ readRegisters rs c
   unfolding readRegisters
-  clears-1 e = rw e
+  clears-1 ts e f = f ∙ rw e
 
-  pub clears-2 : c ≡ interruptStatus2 → set rs interruptStatus2 0 ≡ readRegisters rs c
+  pub clears-2 : (ts : List ℕ) → c ≡ interruptStatus2 → ts ≡ set rs interruptStatus2 0 → ts ≡ readRegisters rs c
   unfolding readRegisters
-  clears-2 e = rw e
+  clears-2 ts e f = f ∙ rw e
 
   pub clears-none : (c ≡ interruptStatus1 → ⊥) → (c ≡ interruptStatus2 → ⊥) → rs ≡ readRegisters rs c
   unfolding readRegisters

@@ -5,6 +5,7 @@ ghost use lib.ListN.{length};
 ghost use Rattle.w83782d_map.specs.Map.{cells};
 ghost use Rattle.w83782d_latches.specs.Effects.{powerOnLatches};
 ghost use Rattle.w83782d_bus.specs.Bus.{state, powerOn, writtenRegisters, writeOf, written, readRegisters, readOf, sized, sizedRead, wroteIn, seenIn};
+use bits::put;
 use bits::store;
 use w83782d_latches::Latches;
 use w83782d_latches::read_latches;
@@ -101,17 +102,12 @@ pub fn write_in(s: &mut [u8], l: Latches, index: u8, value: u8) -> Wrote
 // ---- Bus read: a look and an effect
 
 // A read of 41h or 42h clears it; the chassis bit is the latch and stays.
-fn read_registers(s: &mut [u8], cell: usize)
-    requires { ⌜ length (now s) ≡ cells ⌝ }
+pub fn read_registers(s: &mut [u8], cell: usize)
     ensures { λ r. ⌜ now (s .exit) ≡ readRegisters (now (s .entry)) cell ⌝ }
 {
     match cell {
-        INTERRUPT_STATUS_1 => {
-            s[INTERRUPT_STATUS_1] = 0;
-        }
-        INTERRUPT_STATUS_2 => {
-            s[INTERRUPT_STATUS_2] = 0;
-        }
+        INTERRUPT_STATUS_1 => put(s, INTERRUPT_STATUS_1, 0),
+        INTERRUPT_STATUS_2 => put(s, INTERRUPT_STATUS_2, 0),
         _ => {}
     }
 }

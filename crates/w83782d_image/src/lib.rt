@@ -6,6 +6,7 @@ ghost use lib.ListN.{getD, set};
 ghost use lib.Seq.{sets};
 ghost use Rattle.w83782d_image.specs.Image.{imageLength, flagOf, markOf, flagByte, markByte, remoteAt, remoteBytes, latchesIn, flagBytes, spareZeros};
 use bits::cell;
+use bits::put;
 use sensor::Mark;
 use sensor::Output;
 use sensor::Remote;
@@ -57,15 +58,6 @@ fn mark_byte(mark: Mark) -> u8
     match mark {
         Mark::Armed => 0,
         Mark::Hot => 1,
-    }
-}
-
-// A byte stored; beyond the slice nothing is.
-fn put(image: &mut [u8], at: usize, byte: u8)
-    ensures { λ r. ⌜ now (image .exit) ≡ set (now (image .entry)) at byte ⌝ }
-{
-    if at < image.len() {
-        image[at] = byte;
     }
 }
 
@@ -136,6 +128,24 @@ pub fn put_latches(image: &mut [u8], latches: Latches)
     put_mark(image, SENSOR_1, sensor1);
     put_remote(image, SENSOR_2, two);
     put_remote(image, SENSOR_3, three);
+}
+
+// The chassis latch alone.
+pub fn chassis_in(image: &[u8]) -> bool
+    ensures { λ r. ⌜ r ≡ latchesIn (now (image .entry)) .chassis ⌝ }
+{
+    flag_at(image, CHASSIS)
+}
+
+// The flags written as 0 or 1: what a call leaves that changes no latch, at a fraction of what reading and storing them costs.
+pub fn tidy(image: &mut [u8])
+    ensures { λ r. ⌜ now (image .exit) ≡ sets (now (image .entry)) 112 (flagBytes (latchesIn (now (image .entry)))) ⌝ }
+{
+    let mut at = CHASSIS;
+    while at < SPARE {
+        put(image, at, flag_byte(flag_at(image, at)));
+        at += 1;
+    }
 }
 
 // The spare bytes made 0.

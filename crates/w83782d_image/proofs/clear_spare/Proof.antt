@@ -3,15 +3,16 @@
 use Prim.Native.Nat.{_≤_, _-_}
 use native.Mathlib.Omega.{arith}
 use mathlib.Core.Path.{_≡_, refl, ap, _∙_}
-use lib.ListN.{length, replicate}
+use lib.ListN.{length}
+use Rattle.bits.specs.Map.{tabulate}
 use lib.Seq.{sets}
 use borrow.Author.Needs.{needs}
-use Rattle.w83782d_image.proofs.Images.{clears-next}
+use Rattle.w83782d_image.proofs.Images.{cleared-byte, clears-next}
 use Rattle.w83782d_image.proofs.clear_spare.Statement.{statement}
 use Rattle.w83782d_image.proofs.clear_spare.Tie as tie
 
 abbrev Inv-loop : tie.InvT-loop
-Inv-loop image₀ at₀ image at = (120 ≤ at) × (at ≤ 128) × (length image ≡ length image₀) × (image ≡ sets image₀ 120 (replicate (at - 120) 0))
+Inv-loop image₀ at₀ image at = (120 ≤ at) × (at ≤ 128) × (length image ≡ length image₀) × (image ≡ sets image₀ 120 (tabulate (at - 120) 120 cleared-byte))
 
 abbrev μ-loop : tie.MeasureT-loop
 μ-loop image₀ at₀ image at = 128 - at

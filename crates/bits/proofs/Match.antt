@@ -37,7 +37,7 @@ abbrev pub isSome : List (List ℕ) → ℕ → Bool
 isSome [] x = false
 isSome (ks ∷ kss) x = isKey ks x || isSome kss x
 
-or-either : (a b : Bool) → T (a || b) → T a ⊎ T b
+pub or-either : (a b : Bool) → T (a || b) → T a ⊎ T b
 or-either true b t = inl tt
 or-either false b t = inr t
 

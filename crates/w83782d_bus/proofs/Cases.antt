@@ -1,13 +1,13 @@
 -- The definitions of Bus.antt by their cases, over plain variables: what each branch of the code knows gives what it ensures.
 -- Assumes nothing.
 use mathlib.Core.Path.{_≡_, refl, sym, _∙_}
-use mathlib.Core.Bool.{Bool, true, false, not, _&&_}
+use mathlib.Core.Bool.{Bool, true, false, not, _&&_, _||_}
 use mathlib.Core.List.{List, [], _∷_}
 use Prim.Native.Nat.{ℕ}
 use borrow.Author.Tests.{eq-eqb, ne-eqb, not-true, not-false}
 use lib.Dec.{eqb}
-use lib.ListN.{length, set}
-use Rattle.bits.specs.Bits.{isOn, change, changes}
+use lib.ListN.{length, set, length-set}
+use Rattle.bits.specs.Bits.{choose, isOn, change, changes}
 use Rattle.w83782d_map.specs.Map.{cells, presentAt, configuration, interruptStatus1, interruptStatus2}
 use Rattle.w83782d_map.specs.Registers.{reachOf, writeAnswer, powerOnRegisters, resetRegisters, storedBits, shownOf}
 use Rattle.w83782d_map.specs.Parts.{restoredRegisters, restoredIn}
@@ -70,6 +70,15 @@ module _ (rs : List ℕ) (c : ℕ) where
   pub clears-none : (c ≡ interruptStatus1 → ⊥) → (c ≡ interruptStatus2 → ⊥) → rs ≡ readRegisters rs c
   unfolding readRegisters
   clears-none m n = simp (ne-eqb c interruptStatus1 m, ne-eqb c interruptStatus2 n)
+
+-- no cell is lost
+pub read-length : (rs : List ℕ) (c : ℕ) → length (readRegisters rs c) ≡ length rs
+unfolding readRegisters
+read-length rs c = go (eqb c interruptStatus1 || eqb c interruptStatus2)
+  where
+    go : (b : Bool) → length (choose b (set rs c 0) rs) ≡ length rs
+    go true = length-set rs c 0
+    go false = refl
 
 module _ (rs : List ℕ) (l : Latches) (i : ℕ) where
   pub read-short : (length rs ≡ cells → ⊥) → read (state rs l) 8 0 ≡ sizedRead rs l (readOf (state rs l) i)

@@ -1,20 +1,21 @@
 -- The cells that the code reaches, and its sets of cells and values by their exceptions, are those of the rows.
 -- One computed test over all cells for the sets; the values by their arms. Assumes nothing.
 use mathlib.Core.Path.{_≡_, refl, ap, sym, _∙_}
-use mathlib.Core.Bool.{Bool, true, false, not, _&&_, and-false, Bool·beq}
+use mathlib.Core.Bool.{Bool, true, false, not, _&&_, _||_, and-false, Bool·beq}
 use mathlib.Core.List.{List, [], _∷_}
+use mathlib.Core.Logic.{⊎-elim}
 use Prim.Native.Nat.{ℕ, _+_, _-_, _/_, _%_, _^_, _<_, _≤_}
 use native.Mathlib.Decide.{decLt}
 use native.Mathlib.Omega.{arith}
 use borrow.Author.Tests.{eq-eqb, ne-eqb, lt-ltb, le-ltb, le-leb, lt-leb, eqb-true, eqb-false, ltb-true, ltb-false, not-true, not-false}
 use lib.Bits.{bitAnd}
-use lib.Dec.{T, eqb, ltb, ltb→lt, leb}
+use lib.Dec.{T, eqb, eqb→eq, ltb, ltb→lt, leb}
 use lib.ListN.{getD}
 use Rattle.bits.specs.Bits.{choose, bit, isOn}
 use Rattle.bits.specs.Map.{Row, tabulate, writableBits}
 use Rattle.bits.proofs.Every.{both, both-left, both-right, every-at, beq-same}
 use Rattle.bits.proofs.ChangeLaws.{and-left}
-use Rattle.bits.proofs.Match.{NoKey, last-arm}
+use Rattle.bits.proofs.Match.{NoKey, or-either, last-arm}
 use Rattle.w83782d_map.specs.Map.{cells, rows, keptByReset, presentAt, writableAt, powerOnAt, keptAt, configuration, chassisClear, bankSelect}
 use Rattle.w83782d_map.specs.Registers.{cellOf, reachOf, writeAnswer, storedBits}
 use Rattle.w83782d_map.specs.Parts.{inSet}
@@ -191,6 +192,26 @@ stored-rest c n = go (decLt c cells)
     go : Dec (c < cells) → 0x00 ≡ storedBits c
     go (yes h) = stored-in c h n
     go (no k) = stored-out c (omega arith)
+
+-- a write that would store something is accepted, and 46h stores nothing
+storesOrNot : ℕ → Bool
+storesOrNot c = eqb (storedBits c) 0 || eqb (writeAnswer c) 0
+
+stores-in : (c : ℕ) → c < cells → T (storesOrNot c)
+unfolding storesOrNot writeAnswer presentAt writableAt rows
+stores-in c h = every-at storesOrNot cells tt c h
+
+pub stored-accepted : (c : ℕ) → (storedBits c ≡ 0 → ⊥) → writeAnswer c ≡ 0
+unfolding storesOrNot
+stored-accepted c n = go (decLt c cells)
+  where
+    go : Dec (c < cells) → writeAnswer c ≡ 0
+    go (yes h) = ⊎-elim (λ s. absurd (n (eqb→eq (storedBits c) 0 s))) (eqb→eq (writeAnswer c) 0) (or-either (eqb (storedBits c) 0) (eqb (writeAnswer c) 0) (stores-in c h))
+    go (no k) = absurd (n (sym (stored-out c (omega arith))))
+
+pub clear-stores-none : storedBits chassisClear ≡ 0
+unfolding writableAt rows
+clear-stores-none = refl
 
 abbrev pub powerKeys : List (List ℕ)
 powerKeys =

@@ -1,20 +1,20 @@
 -- The definitions of Bus.antt by their cases, over plain variables: what each branch of the code knows gives what it ensures.
 -- Assumes nothing.
 use mathlib.Core.Path.{_≡_, refl, sym, _∙_}
-use mathlib.Core.Bool.{Bool, true, false, not, _&&_, _||_}
+use mathlib.Core.Bool.{Bool, true, false, not, _&&_}
 use mathlib.Core.List.{List, [], _∷_}
 use Prim.Native.Nat.{ℕ}
 use borrow.Author.Tests.{eq-eqb, ne-eqb, not-true, not-false}
 use lib.Dec.{eqb}
-use lib.ListN.{length, set, length-set}
-use Rattle.bits.specs.Bits.{choose, isOn, change, changes}
+use lib.ListN.{length, set}
+use Rattle.bits.specs.Bits.{isOn, change, changes}
 use Rattle.w83782d_map.specs.Map.{cells, presentAt, configuration, interruptStatus1, interruptStatus2}
 use Rattle.w83782d_map.specs.Registers.{reachOf, writeAnswer, powerOnRegisters, resetRegisters, storedBits, shownOf}
 use Rattle.w83782d_map.specs.Parts.{restoredRegisters, restoredIn}
 use Rattle.w83782d_map.proofs.Cases.{restored-in}
 use Rattle.w83782d_latches.specs.declared.Latches.{Latches}
 use Rattle.w83782d_latches.specs.Effects.{powerOnLatches, writtenLatches, readLatches}
-use Rattle.w83782d_bus.specs.Bus.{state, powerOn, writtenRegisters, writeOf, written, readRegisters, readOf, read, sized, sizedRead}
+use Rattle.w83782d_bus.specs.Bus.{state, powerOn, writtenRegisters, writtenIn, writeOf, written, readRegisters, readOf, read, sized, sizedRead}
 
 -- ---- power-on and reset
 restored-reset : (rs : List ℕ) → restoredRegisters true rs ≡ resetRegisters rs
@@ -33,14 +33,20 @@ module _ (rs : List ℕ) (l : Latches) (e : l ≡ powerOnLatches) where
   power-on-whole ts h f = simp (eq-eqb (length rs) cells h, e, f, ← restored-in false rs h, restored-power-on rs)
 
 -- ---- a write
-module _ (c v : ℕ) (b : Bool) (e : b ≡ (eqb c configuration && isOn v 7)) where
-  pub write-reset : (rs ts : List ℕ) → length rs ≡ cells → b ≡ true → ts ≡ restoredIn true rs → ts ≡ writtenRegisters rs c v
-  unfolding writtenRegisters
-  write-reset rs ts h t f = simp (← e, t) (f ∙ sym (restored-in true rs h) ∙ restored-reset rs)
+pub written-short : (rs : List ℕ) (c v : ℕ) → (length rs ≡ cells → ⊥) → rs ≡ writtenIn rs c v
+written-short rs c v n = simp (ne-eqb (length rs) cells n)
 
-  pub write-store : (rs ts : List ℕ) (m : ℕ) → b ≡ false → m ≡ storedBits c → ts ≡ changes rs (change c m v ∷ []) → ts ≡ writtenRegisters rs c v
+pub written-whole : (rs : List ℕ) (c v : ℕ) → length rs ≡ cells → writtenIn rs c v ≡ writtenRegisters rs c v
+written-whole rs c v h = simp (eq-eqb (length rs) cells h)
+
+module _ (c v : ℕ) (b : Bool) (e : b ≡ (eqb c configuration && isOn v 7)) where
+  pub write-reset : (rs ts : List ℕ) → length rs ≡ cells → b ≡ true → ts ≡ restoredIn true rs → ts ≡ writtenIn rs c v
   unfolding writtenRegisters
-  write-store rs ts m t f g = simp (← e, t, ← f, g)
+  write-reset rs ts h t f = simp (eq-eqb (length rs) cells h, ← e, t) (f ∙ sym (restored-in true rs h) ∙ restored-reset rs)
+
+  pub write-store : (rs ts : List ℕ) (m : ℕ) → length rs ≡ cells → b ≡ false → m ≡ storedBits c → ts ≡ changes rs (change c m v ∷ []) → ts ≡ writtenIn rs c v
+  unfolding writtenRegisters
+  write-store rs ts m h t f g = simp (eq-eqb (length rs) cells h, ← e, t, ← f, g)
 
 module _ (rs : List ℕ) (l : Latches) (i v : ℕ) where
   pub write-short : (length rs ≡ cells → ⊥) → written (state rs l) 8 ≡ sized rs l (writeOf (state rs l) i v)
@@ -51,10 +57,10 @@ module _ (rs : List ℕ) (l : Latches) (i v : ℕ) where
     unfolding writeOf
     write-refused n = simp (eq-eqb (length rs) cells h, ← e, ← f, ne-eqb a 0 n)
 
-    pub write-accepted : (ts : List ℕ) (m : Latches) → a ≡ 0 → ts ≡ writtenRegisters rs c v → m ≡ writtenLatches l c v
+    pub write-accepted : (ts : List ℕ) (m : Latches) → a ≡ 0 → ts ≡ writtenIn rs c v → m ≡ writtenLatches l c v
         → written (state ts m) 0 ≡ sized rs l (writeOf (state rs l) i v)
     unfolding writeOf
-    write-accepted ts m z g k = simp (eq-eqb (length rs) cells h, ← e, ← f, eq-eqb a 0 z, ← g, ← k)
+    write-accepted ts m z g k = simp (eq-eqb (length rs) cells h, ← e, ← f, eq-eqb a 0 z, g, ← k)
 
 -- ---- a read
 -- what a read leaves
@@ -70,15 +76,6 @@ module _ (rs : List ℕ) (c : ℕ) where
   pub clears-none : (c ≡ interruptStatus1 → ⊥) → (c ≡ interruptStatus2 → ⊥) → rs ≡ readRegisters rs c
   unfolding readRegisters
   clears-none m n = simp (ne-eqb c interruptStatus1 m, ne-eqb c interruptStatus2 n)
-
--- no cell is lost
-pub read-length : (rs : List ℕ) (c : ℕ) → length (readRegisters rs c) ≡ length rs
-unfolding readRegisters
-read-length rs c = go (eqb c interruptStatus1 || eqb c interruptStatus2)
-  where
-    go : (b : Bool) → length (choose b (set rs c 0) rs) ≡ length rs
-    go true = length-set rs c 0
-    go false = refl
 
 module _ (rs : List ℕ) (l : Latches) (i : ℕ) where
   pub read-short : (length rs ≡ cells → ⊥) → read (state rs l) 8 0 ≡ sizedRead rs l (readOf (state rs l) i)

@@ -78,6 +78,9 @@ sized rs l w = choose (fits rs) w (written (state rs l) 8)
 abbrev pub sizedRead : List ℕ → Latches → Read → Read
 sizedRead rs l r = choose (fits rs) r (read (state rs l) 8 0)
 
+abbrev pub writtenIn : List ℕ → ℕ → ℕ → List ℕ
+writtenIn rs c v = choose (fits rs) (writtenRegisters rs c v) rs
+
 -- what a function left in the slice, with what it returned
 abbrev pub wroteIn : List ℕ → Wrote → Written
 wroteIn rs w = written (state rs (w .latches)) (w .answer)

@@ -4,7 +4,7 @@ ghost use mathlib.Core.Path.{_≡_};
 ghost use lib.ListN.{length};
 ghost use Rattle.w83782d_map.specs.Map.{cells};
 ghost use Rattle.w83782d_latches.specs.Effects.{powerOnLatches};
-ghost use Rattle.w83782d_bus.specs.Bus.{state, powerOn, writtenRegisters, writeOf, written, readRegisters, readOf, sized, sizedRead, wroteIn, seenIn};
+ghost use Rattle.w83782d_bus.specs.Bus.{state, powerOn, writtenIn, writeOf, written, readRegisters, readOf, sized, sizedRead, wroteIn, seenIn};
 use bits::put;
 use bits::store;
 use w83782d_latches::Latches;
@@ -65,10 +65,13 @@ pub fn power_on_in(s: &mut [u8]) -> Wrote
 
 // ---- Bus write
 
-fn write_registers(s: &mut [u8], cell: usize, value: u8)
-    requires { ⌜ length (now s) ≡ cells ⌝ }
-    ensures { λ r. ⌜ now (s .exit) ≡ writtenRegisters (now (s .entry)) cell value ⌝ }
+// The registers after a write that is accepted. A slice that is not of 112 cells stays.
+pub fn write_registers(s: &mut [u8], cell: usize, value: u8)
+    ensures { λ r. ⌜ now (s .exit) ≡ writtenIn (now (s .entry)) cell value ⌝ }
 {
+    if s.len() != CELLS {
+        return;
+    }
     if is_command(CONFIGURATION, cell, value) {
         restore(s, true);
         return;

@@ -3,13 +3,14 @@
 
 use crate::boundary::Answer;
 use crate::calls::{first_disagreement, library, Call, CarryOut, Look, Subject, LIBRARY};
+use crate::events::record_of;
 use crate::image::{power_on, Image, CHASSIS, SPARE};
 use crate::in_force::{self, aimed_list, breaks_a_plan};
 use crate::looks::{self, Looks};
 use crate::report::{explain, shrink};
 use crate::samples::with_divisor;
 use crate::sequences::{calls, start, AIMS};
-use reference::cell;
+use reference::{cell, Event};
 
 /// Sensor 3's OVT output.
 const OVT_3: usize = 119;
@@ -431,11 +432,15 @@ fn is_found(fault: Subject) -> bool {
     })
 }
 
-/// The calls that are left of a long list from power-on.
-fn shrunk(call: CarryOut) -> Vec<Call> {
-    let list = calls(AIMS[0], 7, 20_000);
+/// The calls that are left of a list from power-on.
+fn shrunk_list(call: CarryOut, list: &[Call]) -> Vec<Call> {
     let fails = |calls: &[Call]| first_disagreement(faulty(call), &power_on(), calls);
-    shrink(&fails, &list)
+    shrink(&fails, list)
+}
+
+/// The calls that are left of a long random list from power-on.
+fn shrunk(call: CarryOut) -> Vec<Call> {
+    shrunk_list(call, &calls(AIMS[0], 7, 20_000))
 }
 
 #[test]
@@ -465,22 +470,21 @@ fn a_disagreement_shrinks_to_the_calls_that_show_it() {
     ));
 }
 
-/// A log keeps one record that is accepted and one that is refused. That one may
-/// need a bank that has no such register.
+/// A log keeps the one record that changes the state and the one that is refused.
 #[test]
 fn a_replay_shrinks_to_the_records_that_show_it() {
-    let list = shrunk(replay_taken_back);
-    let (last, before) = list.split_last().expect("a list that disagrees");
-    assert!(
-        matches!(last, Call::Replay { log } if (33..=64).contains(&log.len())),
-        "{list:?}"
-    );
-    assert!(
-        matches!(before, [] | [Call::Write { index: 0x4E, .. }]),
-        "{list:?}"
-    );
+    let read = record_of(&Event::Read { index: 0x20 });
+    let write = |index| record_of(&Event::Write { index, value: 0x50 });
+    let (accepted, refused) = (write(0x2B), write(0x41));
+    let log = [read, read, accepted, read, refused, read, write(0x48)].concat();
+    let other = Call::Read { index: 0x20 };
+    let mut list = vec![other; 100];
+    list[60] = Call::Replay { log };
+    let list = shrunk_list(replay_taken_back, &list);
+    let log = [accepted, refused].concat();
+    assert_eq!(list, [Call::Replay { log }]);
     let fault = faulty(replay_taken_back);
-    let text = explain(fault, &power_on(), &list, "seed 7");
+    let text = explain(fault, &power_on(), &list, "a log");
     assert!(text.contains("\nreplay\n  ["), "{text}");
 }
 

@@ -32,7 +32,7 @@ pub fn any_event(rng: &mut Rng) -> Event {
 }
 
 /// Sensors 2 and 3 in their range, its ends often; counts of every length.
-fn any_sample(rng: &mut Rng) -> Sample {
+pub fn any_sample(rng: &mut Rng) -> Sample {
     Sample {
         codes: [0; 7].map(|_| rng.byte()),
         t1: rng.byte() as i8,

@@ -1,0 +1,97 @@
+//! The name that `replay` gives a register.
+
+use reference::{find, REGISTERS};
+
+const RAILS: [&str; 7] = ["VCOREA", "VINR0", "+3.3V", "+5V", "+12V", "-12V", "-5V"];
+
+/// 40h to 4Fh; there is no 45h.
+const CONTROL: [&str; 16] = [
+    "configuration",
+    "interrupt status 1",
+    "interrupt status 2",
+    "SMI mask 1",
+    "SMI mask 2",
+    "",
+    "chassis clear",
+    "VID/fan divisor",
+    "serial bus address",
+    "device ID",
+    "temperature 2 and 3 address",
+    "pin control",
+    "IRQ/OVT property",
+    "fan and beep control",
+    "bank select",
+    "vendor ID",
+];
+
+/// 56h to 5Fh of bank 0.
+const BANK_0: [&str; 10] = [
+    "beep control 1",
+    "beep control 2",
+    "chip ID",
+    "diode selection",
+    "PWM 2 duty",
+    "PWM 1 duty",
+    "PWM clock",
+    "VBAT monitor, fan divisor",
+    "PWM 3 duty",
+    "PWM 4 duty",
+];
+
+/// 50h to 56h of banks 1 and 2.
+const TEMPERATURE: [&str; 7] = [
+    "high byte",
+    "low byte",
+    "configuration",
+    "hysteresis high byte",
+    "hysteresis low byte",
+    "over limit high byte",
+    "over limit low byte",
+];
+
+/// The name of the register that an index reaches while a bank is selected.
+pub fn name(bank: u8, index: u8) -> String {
+    let Some(cell) = find(bank, index) else {
+        return match index {
+            0x50..=0x5F => "no such bank".into(),
+            _ => "no register".into(),
+        };
+    };
+    let there_is = REGISTERS[cell].is_some();
+    match (bank, index) {
+        (1 | 2, 0x50..=0x5F) if there_is => in_temperature(bank, TEMPERATURE[at(index, 0x50)]),
+        (1 | 2, 0x50..=0x5F) => in_temperature(bank, "no register"),
+        _ if !there_is => "no register".into(),
+        (4, 0x50..=0x5F) => format!("real time status {}", index - 0x58),
+        (_, 0x50..=0x5F) => BANK_0[at(index, 0x56)].into(),
+        (_, 0x40..=0x4F) => CONTROL[at(index, 0x40)].into(),
+        // "Index 60h to 7Fh is the same storage as 20h to 3Fh."
+        (_, 0x60..=0x7F) => of_reading_or_limit(index - 0x40),
+        _ => of_reading_or_limit(index),
+    }
+}
+
+fn at(index: u8, first: u8) -> usize {
+    usize::from(index - first)
+}
+
+fn in_temperature(bank: u8, name: &str) -> String {
+    format!("temperature {} {name}", bank + 1)
+}
+
+/// 20h to 3Dh.
+fn of_reading_or_limit(index: u8) -> String {
+    match index {
+        0x20..=0x26 => RAILS[at(index, 0x20)].into(),
+        0x27 => "temperature 1".into(),
+        0x28..=0x2A => format!("fan {} count", index - 0x27),
+        // "High, low limit of each voltage in that order."
+        0x2B..=0x38 => {
+            let place = at(index, 0x2B);
+            format!("{} {} limit", RAILS[place / 2], ["high", "low"][place % 2])
+        }
+        0x39 => "temperature 1 over limit".into(),
+        0x3A => "temperature 1 hysteresis".into(),
+        _ => format!("fan {} count limit", index - 0x3A),
+    }
+}

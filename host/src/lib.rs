@@ -83,9 +83,7 @@ impl Monitor {
     pub fn read(&mut self, index: u8) -> Result<u8, Refusal> {
         // SAFETY: pointer and length are those of the image, which is lent for the call.
         let word = unsafe { raw::w83782d_read(self.image.as_mut_ptr(), IMAGE_SIZE, index) };
-        let [answer, byte] = word.to_be_bytes();
-        refusal::accepted(answer)?;
-        Ok(byte)
+        refusal::byte(word)
     }
 
     /// The chassis was opened: sets the chassis latch, in standby too.

@@ -148,9 +148,7 @@ impl Monitor {
                 record.len(),
             )
         };
-        let [answer, byte] = word.to_be_bytes();
-        refusal::accepted(answer)?;
-        Ok(byte)
+        refusal::byte(word)
     }
 
     /// The events of a log, record by record, up to the first that is refused; a

@@ -79,6 +79,13 @@ impl Display for Refusal {
 
 impl Error for Refusal {}
 
+/// The byte of a word of answer and byte.
+pub(crate) fn byte(word: u16) -> Result<u8, Refusal> {
+    let [answer, byte] = word.to_be_bytes();
+    accepted(answer)?;
+    Ok(byte)
+}
+
 /// What an answer number says.
 pub(crate) fn accepted(answer: u8) -> Result<(), Refusal> {
     match answer {

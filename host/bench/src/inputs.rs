@@ -205,6 +205,13 @@ struct Log {
 }
 
 impl Log {
+    fn from(monitor: Monitor) -> Log {
+        Log {
+            monitor,
+            records: Vec::new(),
+        }
+    }
+
     /// Adds an event, if the monitor takes it.
     fn add(&mut self, event: Event) -> bool {
         let accepted = self.monitor.apply(&event).0 == 0;
@@ -238,10 +245,7 @@ impl Log {
 /// half minute, now and then a limit written anew or the chassis opened.
 pub fn usual_log(size: Size, rng: &mut Rng) -> (Monitor, Vec<Record>) {
     let start = cabinet(0);
-    let mut log = Log {
-        monitor: start,
-        records: Vec::new(),
-    };
+    let mut log = Log::from(start);
     while log.records.len() < size.records {
         for _ in 0..15 {
             assert!(log.add(Event::Sample(usual_sample(rng))));
@@ -264,10 +268,7 @@ pub fn usual_log(size: Size, rng: &mut Rng) -> (Monitor, Vec<Record>) {
 /// nothing. A write to 40h may stop the samples until the next.
 pub fn any_log(size: Size, rng: &mut Rng) -> (Monitor, Vec<Record>) {
     let start = Monitor::power_on();
-    let mut log = Log {
-        monitor: start,
-        records: Vec::new(),
-    };
+    let mut log = Log::from(start);
     while log.records.len() < size.records {
         let event = match rng.below(16) {
             0..=4 => {

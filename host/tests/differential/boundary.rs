@@ -9,6 +9,11 @@ mod raw;
 /// Answer, and the byte of a read or the records that a replay accepted.
 pub type Answer = (u8, u64);
 
+/// "answer * 256 + byte"
+fn answer_and_byte(word: u16) -> Answer {
+    ((word / 256) as u8, (word % 256).into())
+}
+
 pub fn power_on(image: &mut [u8]) -> u8 {
     // SAFETY: pointer and length are those of the slice.
     unsafe { raw::w83782d_power_on(image.as_mut_ptr(), image.len()) }
@@ -19,11 +24,10 @@ pub fn write(image: &mut [u8], index: u8, value: u8) -> u8 {
     unsafe { raw::w83782d_write(image.as_mut_ptr(), image.len(), index, value) }
 }
 
-/// "answer * 256 + byte"
 pub fn read(image: &mut [u8], index: u8) -> Answer {
     // SAFETY: pointer and length are those of the slice.
     let word = unsafe { raw::w83782d_read(image.as_mut_ptr(), image.len(), index) };
-    ((word / 256) as u8, (word % 256).into())
+    answer_and_byte(word)
 }
 
 /// The sample's codes are lent apart, so that their length may be wrong.
@@ -50,7 +54,6 @@ pub fn set_plan(image: &mut [u8], fan: u8, rpm: u32) -> u8 {
     unsafe { raw::w83782d_set_plan(image.as_mut_ptr(), image.len(), fan, rpm) }
 }
 
-/// "answer * 256 + byte"
 pub fn event(image: &mut [u8], record: &[u8]) -> Answer {
     // SAFETY: each pointer and the length after it are those of a slice.
     let word = unsafe {
@@ -61,7 +64,7 @@ pub fn event(image: &mut [u8], record: &[u8]) -> Answer {
             record.len(),
         )
     };
-    ((word / 256) as u8, (word % 256).into())
+    answer_and_byte(word)
 }
 
 /// "answer * 2^60 + records accepted"

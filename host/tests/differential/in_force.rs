@@ -16,6 +16,7 @@ use crate::sequences::{self, Aim, PLANNED};
 use reference::answer::ACCEPTED;
 use reference::{decode, u_of_speed, End, Event, InForce, Plan, Sample, RECORD_LENGTH};
 use std::array::from_fn;
+use std::ops::Range;
 
 /// What a run has met, so that it can't pass for want of cases. Fans 1 to 3.
 #[derive(Clone, Debug, Default)]
@@ -332,40 +333,45 @@ fn aimed_sample(in_force: &InForce, rng: &mut Rng) -> Sample {
     sample
 }
 
-#[test]
-fn a_plan_in_force_rings_exactly_from_its_product_on() {
+/// Holds the list of each seed to what the plans in force say; what is to be seen
+/// is seen `least` times.
+fn hold_lists(
+    subject: Subject,
+    seeds: Range<u64>,
+    list: impl Fn(u64) -> (Image, Vec<Call>),
+    least: u64,
+) {
     let mut seen = Seen::default();
-    for seed in 0..2_000 {
-        let (start, calls) = aimed_list(seed, 200);
-        hold_plans(LIBRARY, &start, &calls, &format!("seed {seed}"), &mut seen);
+    for seed in seeds {
+        let (start, calls) = list(seed);
+        hold_plans(subject, &start, &calls, &format!("seed {seed}"), &mut seen);
     }
     println!("{} checks, {seen:?}", seen.checks());
-    assert!(seen.enough(1_000), "{seen:?}");
+    assert!(seen.enough(least), "{seen:?}");
+}
+
+#[test]
+fn a_plan_in_force_rings_exactly_from_its_product_on() {
+    hold_lists(LIBRARY, 0..2_000, |seed| aimed_list(seed, 200), 1_000);
 }
 
 #[test]
 fn a_plan_in_force_rings_alike_through_the_wrapper() {
-    let mut seen = Seen::default();
-    for seed in 1_000_000..1_000_200 {
-        let (start, calls) = aimed_list(seed, 200);
-        hold_plans(WRAPPER, &start, &calls, &format!("seed {seed}"), &mut seen);
-    }
-    println!("{} checks, {seen:?}", seen.checks());
-    assert!(seen.enough(100), "{seen:?}");
+    let seeds = 1_000_000..1_000_200;
+    hold_lists(WRAPPER, seeds, |seed| aimed_list(seed, 200), 100);
 }
 
 /// Lists that don't look at what is in force, most of them from states that no
 /// call could reach.
 #[test]
 fn a_plan_in_force_rings_in_lists_that_know_nothing_of_it() {
-    let mut seen = Seen::default();
-    for seed in 0..2_000 {
-        let calls = sequences::calls(Aim::Plans, seed, 100);
-        let start = sequences::start(seed);
-        hold_plans(LIBRARY, &start, &calls, &format!("seed {seed}"), &mut seen);
-    }
-    println!("{} checks, {seen:?}", seen.checks());
-    assert!(seen.enough(40), "{seen:?}");
+    let list = |seed| {
+        (
+            sequences::start(seed),
+            sequences::calls(Aim::Plans, seed, 100),
+        )
+    };
+    hold_lists(LIBRARY, 0..2_000, list, 40);
 }
 
 // ---- Every write after a plan

@@ -43,37 +43,38 @@ fn aliases_banked(image: &mut Image, call: &Call) -> Answer {
     }
 }
 
+fn resets(call: &Call) -> bool {
+    matches!(call, Call::Write { index: 0x40, value } if *value >= 0x80)
+}
+
 fn address_lost_by_reset(image: &mut Image, call: &Call) -> Answer {
     let answer = library(image, call);
-    if matches!(call, Call::Write { index: 0x40, value } if *value >= 0x80) {
+    if resets(call) {
         image[cell(0, 0x48)] = 0x2D;
     }
     answer
 }
 
-fn other_sensor_released(image: &mut Image, call: &Call) -> Answer {
+/// A read of this index in this bank releases OVT of sensor 3, whatever the mode.
+fn released_by(index: u8, in_bank: u8, image: &mut Image, call: &Call) -> Answer {
     let answer = library(image, call);
-    if *call == (Call::Read { index: 0x50 }) && bank(image) == 1 {
+    if *call == (Call::Read { index }) && bank(image) == in_bank {
         image[OVT_3] = 0;
     }
     answer
 }
 
-/// Reading the low byte releases too, whatever the mode.
+fn other_sensor_released(image: &mut Image, call: &Call) -> Answer {
+    released_by(0x50, 1, image, call)
+}
+
+/// Reading the low byte releases too.
 fn released_by_51h(image: &mut Image, call: &Call) -> Answer {
-    let answer = library(image, call);
-    if *call == (Call::Read { index: 0x51 }) && bank(image) == 2 {
-        image[OVT_3] = 0;
-    }
-    answer
+    released_by(0x51, 2, image, call)
 }
 
 fn released_in_comparator_mode(image: &mut Image, call: &Call) -> Answer {
-    let answer = library(image, call);
-    if *call == (Call::Read { index: 0x50 }) && bank(image) == 2 {
-        image[OVT_3] = 0;
-    }
-    answer
+    released_by(0x50, 2, image, call)
 }
 
 fn flags_tidied_by_refusal(image: &mut Image, call: &Call) -> Answer {
@@ -119,7 +120,7 @@ fn code_stored_by_refused_sample(image: &mut Image, call: &Call) -> Answer {
 fn mark_kept_by_reset(image: &mut Image, call: &Call) -> Answer {
     let hot = image[113] == 1;
     let answer = library(image, call);
-    if matches!(call, Call::Write { index: 0x40, value } if *value >= 0x80) && hot {
+    if resets(call) && hot {
         image[113] = 1;
     }
     answer

@@ -77,10 +77,8 @@ impl Log {
 
     /// The event's record, if the monitor accepts it.
     fn add(&mut self, event: &Event) {
-        let before = self.monitor;
-        match self.monitor.apply(event).0 {
-            0 => self.bytes.extend(record(event)),
-            _ => self.monitor = before,
+        if self.monitor.apply(event).0 == 0 {
+            self.bytes.extend(record(event));
         }
     }
 

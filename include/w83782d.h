@@ -10,8 +10,12 @@
  * of the numbers below. A refused call leaves every byte that it was lent, and
  * what it returns beside the answer is 0. Only w83782d_replay, which is many
  * calls in one, keeps what it did before a refusal. Two things are the caller's
- * part: a pointer leads to as many bytes as the length after it says, and the
- * buffers of one call don't overlap.
+ * part: a pointer is not null and leads to as many bytes as the length after it
+ * says, and the buffers of one call don't overlap.
+ *
+ * The comment of each call lists its answers; in brackets stands what is wrong, as
+ * in 8 (n), where n is not the length that the call needs. docs/EMBEDDING.md tells
+ * how firmware uses the calls.
  *
  * To link: libw83782d_c.a, which `rt staticlib w83782d_c` writes to
  * target/staticlib/, and nothing else. It calls no function outside itself, not
@@ -134,11 +138,12 @@ uint16_t w83782d_read(uint8_t *image, size_t n, uint8_t index);
 uint8_t w83782d_chassis_opened(uint8_t *image, size_t n);
 
 /*
- * Sample: codes of the seven voltages, sensor 1 in whole degrees, sensors 2 and 3
- * in half degrees, the undivided counts of fans 1 to 3. Stores them, sets the
- * real-time bits, latches status and moves OVT. Answers 0, 8 (n, or v is not
- * W83782D_VOLTAGES), 3 (t2 or t3 outside -256 to 255) or 4 (monitoring is
- * stopped); a refusal leaves every byte of the image.
+ * Sample: codes of the seven voltages (VCOREA, VINR0, +3.3, +5, +12, -12, -5),
+ * sensor 1 in whole degrees, sensors 2 and 3 in half degrees, the undivided counts
+ * of fans 1 to 3: 1,350,000 / rpm rounded down, UINT32_MAX for a fan that stands.
+ * Stores them, sets the real-time bits, latches status and moves OVT. Answers 0,
+ * 8 (n, or v is not W83782D_VOLTAGES), 3 (t2 or t3 outside -256 to 255) or 4
+ * (monitoring is stopped); a refusal leaves every byte of the image.
  */
 uint8_t w83782d_sample(uint8_t *image, size_t n, const uint8_t *volts, size_t v, int8_t t1,
                        int16_t t2, int16_t t3, uint32_t u1, uint32_t u2, uint32_t u3);
@@ -199,9 +204,10 @@ uint32_t w83782d_temperature(const uint8_t *image, size_t n, uint8_t sensor);
 /* ---- Plans and readings that need no monitor ---- */
 
 /*
- * The plan of a fan alarm at a speed: the divisor (1, 2, .. 128) and the count
- * limit (0 to 254) to set. Returns answer * 65536 + divisor * 256 + limit; the
- * answer is 0 or 6 (speed). A refusal gives divisor 0 and limit 0.
+ * The plan of a fan alarm at a speed, which rings at that speed and at every slower
+ * one: the divisor (1, 2, .. 128) and the count limit (0 to 254) to set. Returns
+ * answer * 65536 + divisor * 256 + limit; the answer is 0 or 6 (speed). A refusal
+ * gives divisor 0 and limit 0.
  */
 uint32_t w83782d_plan(uint32_t rpm);
 
@@ -258,10 +264,9 @@ uint8_t w83782d_record_read(uint8_t index, uint8_t *out, size_t m);
 uint8_t w83782d_record_chassis(uint8_t *out, size_t m);
 
 /*
- * Writes the record of a sample to out: codes of the seven voltages, sensor 1 in
- * whole degrees, sensors 2 and 3 in half degrees, the undivided counts of fans 1
- * to 3. Answers 0, 8 (v is not W83782D_VOLTAGES, or m) or 3 (t2 or t3 outside
- * -256 to 255); a refusal leaves every byte of out.
+ * Writes the record of a sample to out, with the numbers that w83782d_sample takes.
+ * Answers 0, 8 (v is not W83782D_VOLTAGES, or m) or 3 (t2 or t3 outside -256 to
+ * 255); a refusal leaves every byte of out.
  */
 uint8_t w83782d_record_sample(const uint8_t *volts, size_t v, int8_t t1, int16_t t2, int16_t t3,
                               uint32_t u1, uint32_t u2, uint32_t u3, uint8_t *out, size_t m);

@@ -114,8 +114,8 @@ static uint8_t bus_index;
 /* The first byte after the bus address of a write is the index. */
 static bool index_is_next;
 
-/* Where the next record is written. In a full log its length is 0, and a record of
- * that length is refused: the log keeps what it has. */
+/* Where the next record is written, and how many bytes it may take. In a full log
+ * they are 0, and the record is refused: the log keeps what it has. */
 static uint8_t *log_end(void)
 {
     return event_log + logged;

@@ -195,8 +195,8 @@ pub struct Plan {
     pub limit: u8,
 }
 
-/// The plan of a fan alarm at a speed, or [`Refusal::BadSpeed`].
-/// [`Monitor::set_plan`] sets it.
+/// The plan of a fan alarm at a speed, which rings at that speed and at every
+/// slower one, or [`Refusal::BadSpeed`]. [`Monitor::set_plan`] sets it.
 ///
 /// ```
 /// use w83782d::{plan, Plan, Refusal};

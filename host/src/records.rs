@@ -18,7 +18,8 @@ pub struct Sample {
     pub sensor_2: i16,
     /// Sensor 3 in half degrees, -256 to 255.
     pub sensor_3: i16,
-    /// Undivided counts of fans 1 to 3.
+    /// Undivided counts of fans 1 to 3: 1,350,000 / rpm rounded down, `u32::MAX`
+    /// for a fan that stands.
     pub counts: [u32; 3],
 }
 

@@ -3,12 +3,14 @@
 use crate::boundary;
 use crate::calls::{agrees, Call, LIBRARY};
 use crate::events::record_of;
-use crate::image::{in_bank, near_power_on, power_on, random, Image, CHASSIS, LENGTH, SPARE};
+use crate::image::{
+    image_of, in_bank, near_power_on, power_on, random, state_in, Image, CHASSIS, LENGTH, SPARE,
+};
 use crate::plans::{any_speed, ENDS_OF_SPEEDS};
 use crate::report::explain;
 use crate::rng::Rng;
 use crate::samples::near_sample;
-use reference::Event;
+use reference::{cell, Event};
 
 fn hold(start: &Image, call: Call, origin: &str) {
     assert!(
@@ -70,6 +72,34 @@ fn power_on_and_chassis_opened_agree_from_any_image() {
     for (origin, start) in starts(50_000) {
         hold(&start, Call::PowerOn, &origin);
         hold(&start, Call::ChassisOpened, &origin);
+    }
+}
+
+/// How docs/EMBEDDING.md serves the bus addresses of sensors 2 and 3: their bank is
+/// selected for an access and 4Eh is written back. Nothing else moves, but that
+/// "reading that bank's 50h releases" in interrupt mode.
+#[test]
+fn a_sensor_read_in_its_bank_leaves_all_but_its_ovt() {
+    for (origin, start) in starts(5_000) {
+        for bank in 1..=2 {
+            let mut image = start;
+            let (_, select) = boundary::read(&mut image, 0x4E);
+            let select = select as u8;
+            assert_eq!(boundary::write(&mut image, 0x4E, select & 0x80 | bank), 0);
+            for index in 0x50..=0x56 {
+                let expected = u64::from(start[cell(bank, index)]);
+                assert_eq!(boundary::read(&mut image, index), (0, expected));
+            }
+            assert_eq!(boundary::write(&mut image, 0x4E, select), 0);
+
+            let mut expected = state_in(&start);
+            let interrupt_mode = start[cell(bank, 0x52)] & 0x02 != 0;
+            if interrupt_mode {
+                expected.ovt_asserted[usize::from(bank) - 1] = false;
+            }
+            let expected = image_of(&expected, &start[SPARE..]);
+            assert_eq!(image, expected, "{origin}, bank {bank}");
+        }
     }
 }
 

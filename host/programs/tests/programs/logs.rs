@@ -106,7 +106,7 @@ pub fn any_record(rng: &mut Rng) -> [u8; RECORD_LENGTH] {
     let mut record = record(&event);
     match (rng.below(8), event) {
         (0, _) => record[rng.below(RECORD_LENGTH as u64) as usize] ^= 1 << rng.below(8),
-        (1, Event::Sample(sample)) => record = hot(&sample, rng),
+        (1, Event::Sample(sample)) => record = out_of_range(&sample, rng),
         _ => {}
     }
     record
@@ -114,7 +114,7 @@ pub fn any_record(rng: &mut Rng) -> [u8; RECORD_LENGTH] {
 
 /// The record of a sample with sensor 2 or 3 outside -256 to 255 half degrees: the
 /// record writer makes none.
-fn hot(sample: &Sample, rng: &mut Rng) -> [u8; RECORD_LENGTH] {
+fn out_of_range(sample: &Sample, rng: &mut Rng) -> [u8; RECORD_LENGTH] {
     let mut record = record(&Event::Sample(*sample));
     let half_degrees: i16 = rng.pick(&[i16::MIN, -257, 256, 257, i16::MAX]);
     let at = rng.pick(&[9, 11]);

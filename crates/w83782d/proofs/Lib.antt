@@ -1,4 +1,2 @@
 pub mod Faces
-pub mod Standing
-pub mod Ringing
-pub mod Alarm
+pub mod Calls

@@ -1,145 +1,24 @@
--- Demand 3, whole: an alarm speed asked for is an alarm that rings (document 01, "Planning a fan alarm").
--- "Demand 3 is a single claim about the whole list, not one for each call."
+-- Demand 3 by value. The claim itself, `AlarmRings`, stands in w83782d_alarm and is about the registers and latches; here stands
+-- that the methods' definitions are its calls, so that it is about them.
 use mathlib.Core.Path.{_≡_}
-use mathlib.Core.Bool.{Bool, false, _&&_, _||_}
-use mathlib.Core.List.{List}
-use mathlib.Core.Logic.{_↔_}
-use Prim.Native.Nat.{ℕ, _-_, _*_, _≤_}
-use lib.Dec.{eqb, leb}
-use lib.ListN.{length, getD}
-use Rattle.bits.specs.Bits.{choose, bit, isOn, flagOf, changes}
-use Rattle.fan.specs.Count.{perMinute, valueOf, countOf}
-use Rattle.fan.specs.Plan.{planRings}
-use Rattle.fan.specs.Search.{planOf}
-use Rattle.fan.specs.declared.Divisor.{Divisor}
-use Rattle.fan.specs.declared.Planned.{Planned}
-use Rattle.fan.specs.declared.Planned.the-variants.{Plan, Refused}
-use Rattle.alarm.specs.Alarm.{Force, none, plan, Machine, Everywhere, rewrites}
-use Rattle.samples.specs.declared.Sample.{Sample}
-use Rattle.w83782d_map.specs.Map.{cells, at}
-use Rattle.w83782d_store.specs.Stored as Stored
-use Rattle.w83782d_store.specs.Stored.{divisorOf}
-use Rattle.w83782d_sample.specs.Sample.{fanLimit}
-use Rattle.w83782d_sample_laws.specs.Claims.{fanBit}
-use Rattle.w83782d_plan.specs.Plan.{settings}
-use Rattle.w83782d_plan.specs.Claims.{PlanSet}
+use Prim.Native.Nat.{ℕ}
+use Rattle.w83782d_bus.specs.Bus as Bus
+use Rattle.w83782d_bus.specs.Bus.{written}
+use Rattle.w83782d_alarm.specs.Alarm.{Call, write, read, sample, chassis, setPlan, answerTo}
 use Rattle.w83782d.specs.declared.Monitor.{Monitor}
 use Rattle.w83782d.specs.declared.Answered.{Answered}
 use Rattle.w83782d.specs.Monitor.{stateOf, writeOf, readOf, sampleOf, openedOf, setPlanOf}
 
--- ---- "Its calls are bus write, bus read, sample, chassis opened and setting a plan"
-pub data Call : Type 0 where
-  write : (index value : ℕ) → Call
-  read : (index : ℕ) → Call
-  sample : Sample → Call
-  chassis : Call
-  setPlan : (fan speed : ℕ) → Call
+-- each call is answered by the definition that its method's contract cites
+abbrev pub answerOf : Monitor → Call → Answered
+answerOf m (write i v) = writeOf m i v
+answerOf m (read i) = record { monitor = readOf m i .monitor; answer = readOf m i .answer }
+answerOf m (sample x) = sampleOf m x
+answerOf m chassis = openedOf m
+answerOf m (setPlan f w) = setPlanOf m f w
 
--- each is answered by the definition that its method's contract cites
-abbrev pub answerTo : Monitor → Call → Answered
-answerTo m (write i v) = writeOf m i v
-answerTo m (read i) = record { monitor = readOf m i .monitor; answer = readOf m i .answer }
-answerTo m (sample x) = sampleOf m x
-answerTo m chassis = openedOf m
-answerTo m (setPlan f w) = setPlanOf m f w
-
--- ---- what ends a plan
-
--- "a reset by 40h bit 7"
-abbrev pub isReset : ℕ → ℕ → Bool
-isReset i v = eqb i 0x40 && isOn v 7
-
--- the cell that an accepted write to an index reaches, where that is one of a plan's: "Index 60h to 7Fh is the same storage as
--- 20h to 3Fh", and 5Dh exists in bank 0 alone
-abbrev pub reached : ℕ → ℕ
-reached i = choose (leb 0x60 i) (at (i - 0x40)) (at i)
-
--- ---- "A plan is in force on its fan": one for a speed, with its divisor d and its limit L
-pub record Set : Type 0 where
-  pub speed : ℕ
-  pub divisor : Divisor
-  pub limit : ℕ
-
-abbrev pub setFor : ℕ → Planned → Force Set
-setFor w (Plan d l) = plan (record { speed = w; divisor = d; limit = l })
-setFor w Refused = none
-
-abbrev pub sets : ℕ → Call → Force Set
-sets f (setPlan g w) = choose (eqb g f) (setFor w (planOf w)) none
-sets f (write i v) = none
-sets f (read i) = none
-sets f (sample x) = none
-sets f chassis = none
-
-abbrev pub ends : ℕ → Set → Call → Bool
-ends f p (write i v) = isReset i v || rewrites (settings f (p .divisor) (p .limit)) (reached i) v
-ends f p (read i) = false
-ends f p (sample x) = false
-ends f p chassis = false
-ends f p (setPlan g w) = false
-
--- the monitor as fan f sees it; crate `alarm` says how long a plan is in force
-abbrev pub watched : ℕ → Machine Monitor Call Set
-watched f = record { step = λ m c. answerTo m c .monitor; answer = λ m c. answerTo m c .answer; sets = sets f; ends = ends f }
-
--- ---- ringing
-
--- the fan's real-time bit as a bus read of bank 4 shows it: "fan 1, fan 2" in 59h, "fan 3" in 5Ah
-abbrev pub realTimeBit : Monitor → ℕ → ℕ
-realTimeBit m f = bit (readOf (writeOf m 0x4E 4 .monitor) (choose (eqb f 3) 0x5A 0x59) .byte) (fanBit f)
-
--- "A sample carries for each fan an undivided count u"
-abbrev pub undividedOf : Sample → ℕ → ℕ
-undividedOf x f = getD (x .counts) (f - 1) Stored.none .0
-
--- "the two being set instead"
-abbrev pub withInstead : Monitor → ℕ → Divisor → ℕ → Monitor
-withInstead m f d l = record { registers = changes (m .registers) (settings f d l); latches = m .latches }
-
--- every state of the monitor: 112 cells, whatever they hold, and any latches
-abbrev pub Whole : Monitor → Type 0
-Whole m = length (m .registers) ≡ cells
-
--- "Any divisor of the eight with any limit 0 to 255 rings at a speed when, the two being set instead, an accepted sample with
--- that speed's u leaves the fan's real-time bit 1."
-abbrev pub RingsAt : ℕ → Divisor → ℕ → ℕ → ℕ → Type 0
-RingsAt f d l a b =
-    (m : Monitor) → Whole m → (x : Sample) → undividedOf x f ≡ countOf a b → sampleOf (withInstead m f d l) x .answer ≡ 0
-    → realTimeBit (sampleOf (withInstead m f d l) x .monitor) f ≡ 1
-
--- ---- the claim
-
--- 1 and 4: asking for 1 to 1,350,000 rpm
-pub record SetsPlan (f : ℕ) (m : Monitor) (w : ℕ) : Type 0 where
-  pub answer : setPlanOf m f w .answer ≡ 0
-  -- it sets document 01's plan (d, L) for that speed, and changes no register bit but that fan's limit and divisor
-  pub set : PlanSet (stateOf m) (stateOf (setPlanOf m f w .monitor)) f w
-  -- any divisor and limit that ring at every speed a/b up to the one asked ring at every speed where the plan rings
-  pub least : (e : Divisor) (k : ℕ) → k ≤ 255 → ((a b : ℕ) → 1 ≤ b → a ≤ w * b → RingsAt f e k a b)
-      → (a b : ℕ) → 1 ≤ b → RingsAt f (set .divisor) (set .limit) a b → RingsAt f e k a b
-
--- 2 and 3: a sample that is accepted while a plan is in force
-pub record Rings (f : ℕ) (m : Monitor) (p : Set) (x : Sample) : Type 0 where
-  -- the bit is 1 exactly when u >= (L+1)d
-  pub exactly : realTimeBit (sampleOf m x .monitor) f ≡ flagOf (planRings (valueOf (p .divisor)) (p .limit) (undividedOf x f))
-  -- so at a steady speed a/b at or below the one asked it is 1
-  pub steady : (a b : ℕ) → 1 ≤ b → a ≤ p .speed * b → undividedOf x f ≡ countOf a b → realTimeBit (sampleOf m x .monitor) f ≡ 1
-
--- no plan is said to end too soon: a write that is no reset ends it exactly if it leaves another limit or divisor
-pub record HasPlan (f : ℕ) (m : Monitor) (p : Set) : Type 0 where
-  pub limit : getD (m .registers) (fanLimit f) 0 ≡ p .limit
-  pub divisor : divisorOf (m .registers) f ≡ p .divisor
-
--- what is said of one call, of the state that it finds and the plan then in force
-abbrev pub Said : ℕ → Monitor → Force Set → Call → Type 0
-Said f m p (setPlan g w) = g ≡ f → 1 ≤ w → w ≤ perMinute → SetsPlan f m w
-Said f m none (sample x) = Unit {0}
-Said f m (plan p) (sample x) = sampleOf m x .answer ≡ 0 → Rings f m p x
-Said f m none (write i v) = Unit {0}
-Said f m (plan p) (write i v) = writeOf m i v .answer ≡ 0 → isReset i v ≡ false → (ends f p (write i v) ≡ false) ↔ HasPlan f (writeOf m i v .monitor) p
-Said f m p (read i) = Unit {0}
-Said f m p chassis = Unit {0}
-
--- of every fan, every state to start from and every list of calls, at each of its calls
-abbrev pub AlarmRings : Type 0
-AlarmRings = (f : ℕ) → 1 ≤ f → f ≤ 3 → (m : Monitor) → Whole m → (cs : List Call) → Everywhere (watched f) (Said f) m none cs
+pub record MonitorCalls : Type 0 where
+  -- a call on the monitor is that call on its registers and latches
+  pub calls : (m : Monitor) (c : Call) → written (stateOf (answerOf m c .monitor)) (answerOf m c .answer) ≡ answerTo (stateOf m) c
+  -- and the byte that a read shows is the one that the claim looks at
+  pub byte : (m : Monitor) (i : ℕ) → readOf m i .byte ≡ Bus.readOf (stateOf m) i .byte

@@ -4,10 +4,11 @@ ghost use mathlib.Core.Path.{_≡_};
 ghost use Rattle.w83782d_bus_laws.specs.Claims.{WriteClaims, ReadClaims, OpenedClaims};
 ghost use Rattle.w83782d_sample_laws.specs.Claims.{SampleClaims};
 ghost use Rattle.w83782d_plan.specs.Claims.{PlanClaims};
+ghost use Rattle.w83782d_alarm.specs.Alarm.{AlarmRings};
 ghost use Rattle.w83782d_readings.specs.Outputs.{smiOf, standingAlarms};
 ghost use Rattle.w83782d_readings.specs.Readings.{voltageOf, speedOf, temperatureOf, dutyOf};
 ghost use Rattle.w83782d.specs.Monitor.{stateOf, powerOnOf, writeOf, readOf, sampleOf, openedOf, setPlanOf, applyOf, ovtOf};
-ghost use Rattle.w83782d.specs.Alarm.{AlarmRings};
+ghost use Rattle.w83782d.specs.Alarm.{MonitorCalls};
 use analog::Reading;
 use event::Event;
 use fan::Speed;
@@ -128,11 +129,13 @@ impl Monitor {
     }
 
     // An alarm for a fan, 1 to 3, at a speed of 1 to 1,350,000 turns a minute: answered 0, or 7 or 6 with the monitor as it was.
-    // What it promises over every list of calls that follow, or come before, is `AlarmRings`.
+    // What it promises over every list of calls that follow, or come before, is `AlarmRings`; that those calls are these methods,
+    // `MonitorCalls`.
     pub fn set_plan(mut self, fan: u8, rpm: u32) -> Answered
         ensures equation { λ r. ⌜ r ≡ setPlanOf self fan rpm ⌝ }
         ensures claims { λ r. ⌜ PlanClaims (stateOf self) fan rpm ⌝ }
         ensures alarm { λ r. ⌜ AlarmRings ⌝ }
+        ensures calls { λ r. ⌜ MonitorCalls ⌝ }
     {
         let mut registers = self.registers;
         let latches = self.latches;

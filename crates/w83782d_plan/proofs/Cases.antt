@@ -3,7 +3,7 @@
 use mathlib.Core.Path.{_≡_, refl}
 use mathlib.Core.List.{List, [], _∷_}
 use mathlib.Core.Logic.{_≢_}
-use Prim.Native.Nat.{ℕ, _+_, _<_, _≤_}
+use Prim.Native.Nat.{ℕ, _<_, _≤_}
 use native.Mathlib.Omega.{arith}
 use borrow.Author.Tests.{eq-eqb, ne-eqb, lt-ltb, le-ltb, ltb-false}
 use lib.Dec.{ltb}
@@ -23,10 +23,11 @@ use Rattle.w83782d_latches.specs.declared.Latches.{Latches}
 use Rattle.w83782d_map.specs.Map.{cells}
 use Rattle.w83782d_bus.specs.Bus.{State, state, Written, written, sized}
 use Rattle.w83782d_store.specs.Stored.{divisorPlaces}
+use Rattle.w83782d_sample.specs.Sample.{fanLimit}
 use Rattle.w83782d_plan.specs.Plan.{settings, plannedRegisters, isNoFan, setPlanOf}
 
 -- the limit's cell, then the divisor's field
-pub plan-put : (rs ss ts : List ℕ) (f l : ℕ) (d : Divisor) (p : Field) (q : Planned) → ss ≡ changes rs (change (26 + f) 255 l ∷ []) → placesOf p ≡ divisorPlaces f
+pub plan-put : (rs ss ts : List ℕ) (f l : ℕ) (d : Divisor) (p : Field) (q : Planned) → ss ≡ changes rs (change (fanLimit f) 0xFF l ∷ []) → placesOf p ≡ divisorPlaces f
     → ts ≡ withDivisor ss (placesOf p) d → q ≡ Plan d l → ts ≡ plannedRegisters rs f q
 unfolding withDivisor changes
 plan-put rs ss ts f l d p q e g h k = rw (h, e, g, k)

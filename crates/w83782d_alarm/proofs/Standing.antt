@@ -24,7 +24,7 @@ use Rattle.fan.specs.declared.Divisor.{Divisor}
 use Rattle.alarm.specs.Alarm.{differs, rewrites}
 use Rattle.alarm.proofs.Writes.{field-kept, cell-kept, within, field-agrees, cell-agrees}
 use Rattle.samples.specs.declared.Sample.{Sample}
-use Rattle.w83782d_map.specs.Map.{cells, configuration, presentAt, bankAt, indexAt, interruptStatus1, interruptStatus2, writableAt, rows}
+use Rattle.w83782d_map.specs.Map.{cells, at, atBank, configuration, presentAt, bankAt, indexAt, interruptStatus1, interruptStatus2, writableAt, rows}
 use Rattle.w83782d_bus.specs.Bus.{State, state, writtenRegisters, Written, written, readRegisters, Read}
 use Rattle.w83782d_map.specs.Registers.{cellOf, bankOf, reachOf, storedBits, resetRegisters, writeAnswer}
 use Rattle.w83782d_latches.specs.Effects.{writtenLatches}
@@ -38,7 +38,7 @@ use Rattle.w83782d_store.specs.Stored.{divisorPlaces}
 use Rattle.w83782d_sample_laws.specs.Claims.{touched}
 use Rattle.w83782d_sample_laws.proofs.Stores.{frame}
 use Rattle.w83782d_plan.specs.Plan.{settings}
-use Rattle.w83782d.specs.Alarm.{Set, isReset, reached}
+use Rattle.w83782d_alarm.specs.Alarm.{Set, isReset, reached}
 use Rattle.w83782d_plan.proofs.Settings.{places-ind}
 
 -- the plan of fan f stands in the registers
@@ -50,9 +50,9 @@ pub record Stands (f : ℕ) (rs : List ℕ) (p : Set) : Type 0 where
 -- ---- where the limits, 47h, 4Bh and 5Dh stay
 pub record SameCells (rs ts : List ℕ) : Type 0 where
   pub limits : (f : ℕ) → f ≤ 3 → getD ts (fanLimit f) 0 ≡ getD rs (fanLimit f) 0
-  pub two : getD ts 39 0 ≡ getD rs 39 0
-  pub third : getD ts 43 0 ≡ getD rs 43 0
-  pub top : getD ts 61 0 ≡ getD rs 61 0
+  pub two : getD ts (at 0x47) 0 ≡ getD rs (at 0x47) 0
+  pub third : getD ts (at 0x4B) 0 ≡ getD rs (at 0x4B) 0
+  pub top : getD ts (at 0x5D) 0 ≡ getD rs (at 0x5D) 0
 
 same-bits : (f : ℕ) (rs ts : List ℕ) → SameCells rs ts → gatherOf ts (divisorPlaces f) ≡ gatherOf rs (divisorPlaces f)
 unfolding gatherOf
@@ -64,11 +64,11 @@ same-stands f rs ts p h s g =
     record { limit = s .limits f h ∙ g .limit; bits = same-bits f rs ts s ∙ g .bits; isPlan = g .isPlan }
 
 -- ---- a read clears 41h or 42h alone
-read-same : (rs : List ℕ) (c k : ℕ) → k ≢ 33 → k ≢ 34 → getD (readRegisters rs c) k 0 ≡ getD rs k 0
+read-same : (rs : List ℕ) (c k : ℕ) → k ≢ interruptStatus1 → k ≢ interruptStatus2 → getD (readRegisters rs c) k 0 ≡ getD rs k 0
 unfolding readRegisters
 read-same rs c k n m =
     choose-ind (λ (ts : List ℕ). getD ts k 0 ≡ getD rs k 0) (eqb c interruptStatus1 || eqb c interruptStatus2) _ _
-    (λ e. getD-set-other rs c k 0 0 (λ q. is-one (eqb c 33) (eqb c 34) e (λ a. n (q ∙ eqb-true c 33 a)) (λ b. m (q ∙ eqb-true c 34 b)))) (λ _. refl)
+    (λ e. getD-set-other rs c k 0 0 (λ q. is-one (eqb c interruptStatus1) (eqb c interruptStatus2) e (λ a. n (q ∙ eqb-true c interruptStatus1 a)) (λ b. m (q ∙ eqb-true c interruptStatus2 b)))) (λ _. refl)
   where
     is-one : (a b : Bool) → (a || b) ≡ true → (a ≡ true → ⊥) → (b ≡ true → ⊥) → ⊥
     is-one true b e f g = f refl
@@ -91,9 +91,9 @@ module _ (s : State) (i : ℕ) where
       read-view (SameCells (s .registers)) s i
       (record {
         limits = λ f h. read-same (s .registers) (reachOf (s .registers) i) (fanLimit f) (λ e. omega arith) (λ e. omega arith);
-        two = read-same (s .registers) (reachOf (s .registers) i) 39 (λ e. omega arith) (λ e. omega arith);
-        third = read-same (s .registers) (reachOf (s .registers) i) 43 (λ e. omega arith) (λ e. omega arith);
-        top = read-same (s .registers) (reachOf (s .registers) i) 61 (λ e. omega arith) (λ e. omega arith);
+        two = read-same (s .registers) (reachOf (s .registers) i) (at 0x47) (λ e. omega arith) (λ e. omega arith);
+        third = read-same (s .registers) (reachOf (s .registers) i) (at 0x4B) (λ e. omega arith) (λ e. omega arith);
+        top = read-same (s .registers) (reachOf (s .registers) i) (at 0x5D) (λ e. omega arith) (λ e. omega arith);
       })
       (record { limits = λ f h. refl; two = refl; third = refl; top = refl })
 
@@ -110,53 +110,57 @@ unfolding touched
 sample-cells s x =
     record {
       limits = λ f h. frame s x .others (fanLimit f) (omega arith) (limits-untouched f (omega arith));
-      two = frame s x .others 39 (lit< tt) refl;
-      third = frame s x .others 43 (lit< tt) refl;
-      top = frame s x .others 61 (lit< tt) refl;
+      two = frame s x .others (at 0x47) (lit< tt) refl;
+      third = frame s x .others (at 0x4B) (lit< tt) refl;
+      top = frame s x .others (at 0x5D) (lit< tt) refl;
     }
 
--- ---- a write reaches a register below cell 64 by its own index alone
-reached-is : (b i : ℕ) → cellOf b i < 64 → reached i ≡ cellOf b i
+-- ---- a write reaches a register of bank 0 by its own index alone
+-- the cells of bank 0, 20h to 5Fh, come first: how many they are
+abbrev first : ℕ
+first = at 0x60
+
+reached-is : (b i : ℕ) → cellOf b i < first → reached i ≡ cellOf b i
 unfolding cellOf
 reached-is b i =
-    choose-ind (λ (c : ℕ). c < 64 → reached i ≡ c) (ltb i 0x20) _ _ (λ _ h. absurd (omega arith))
-    (λ l. choose-ind (λ (c : ℕ). c < 64 → reached i ≡ c) (ltb 0x7F i) _ _ (λ _ h. absurd (omega arith))
-    (λ u. choose-ind (λ (c : ℕ). c < 64 → reached i ≡ c) (leb 0x60 i) _ _ (λ e h. simp e)
-    (λ e. choose-ind (λ (c : ℕ). c < 64 → reached i ≡ c) (ltb i 0x50) _ _ (λ g h. simp e)
-    (λ g. choose-ind (λ (c : ℕ). c < 64 → reached i ≡ c) (eqb b 0) _ _ (λ _ h. simp e)
-    (λ _. choose-ind (λ (c : ℕ). c < 64 → reached i ≡ c) (eqb b 1) _ _ (λ _ h. absurd (omega arith))
-    (λ _. choose-ind (λ (c : ℕ). c < 64 → reached i ≡ c) (eqb b 2) _ _ (λ _ h. absurd (omega arith))
-    (λ _. choose-ind (λ (c : ℕ). c < 64 → reached i ≡ c) (eqb b 4) _ _ (λ _ h. absurd (omega arith)) (λ _ h. absurd (omega arith)))))))))
+    choose-ind (λ (c : ℕ). c < first → reached i ≡ c) (ltb i 0x20) _ _ (λ _ h. absurd (omega arith))
+    (λ l. choose-ind (λ (c : ℕ). c < first → reached i ≡ c) (ltb 0x7F i) _ _ (λ _ h. absurd (omega arith))
+    (λ u. choose-ind (λ (c : ℕ). c < first → reached i ≡ c) (leb 0x60 i) _ _ (λ e h. simp e)
+    (λ e. choose-ind (λ (c : ℕ). c < first → reached i ≡ c) (ltb i 0x50) _ _ (λ g h. simp e)
+    (λ g. choose-ind (λ (c : ℕ). c < first → reached i ≡ c) (eqb b 0) _ _ (λ _ h. simp e)
+    (λ _. choose-ind (λ (c : ℕ). c < first → reached i ≡ c) (eqb b 1) _ _ (λ _ h. absurd (omega arith))
+    (λ _. choose-ind (λ (c : ℕ). c < first → reached i ≡ c) (eqb b 2) _ _ (λ _ h. absurd (omega arith))
+    (λ _. choose-ind (λ (c : ℕ). c < first → reached i ≡ c) (eqb b 4) _ _ (λ _ h. absurd (omega arith)) (λ _ h. absurd (omega arith)))))))))
 
 -- 40h is reached by 40h alone
-reset-index : (b i : ℕ) → cellOf b i ≡ 32 → i ≡ 0x40
+reset-index : (b i : ℕ) → cellOf b i ≡ configuration → i ≡ 0x40
 unfolding cellOf
 reset-index b i =
-    choose-ind (λ (c : ℕ). c ≡ 32 → i ≡ 0x40) (ltb i 0x20) _ _ (λ _ h. absurd (omega arith))
-    (λ l. choose-ind (λ (c : ℕ). c ≡ 32 → i ≡ 0x40) (ltb 0x7F i) _ _ (λ _ h. absurd (omega arith))
-    (λ u. choose-ind (λ (c : ℕ). c ≡ 32 → i ≡ 0x40) (leb 0x60 i) _ _ (λ e h. absurd (omega (arith, ltb-false 0x7F i u)))
-    (λ e. choose-ind (λ (c : ℕ). c ≡ 32 → i ≡ 0x40) (ltb i 0x50) _ _ (λ g h. omega arith)
-    (λ g. choose-ind (λ (c : ℕ). c ≡ 32 → i ≡ 0x40) (eqb b 0) _ _ (λ _ h. omega arith)
-    (λ _. choose-ind (λ (c : ℕ). c ≡ 32 → i ≡ 0x40) (eqb b 1) _ _ (λ _ h. absurd (omega arith))
-    (λ _. choose-ind (λ (c : ℕ). c ≡ 32 → i ≡ 0x40) (eqb b 2) _ _ (λ _ h. absurd (omega arith))
-    (λ _. choose-ind (λ (c : ℕ). c ≡ 32 → i ≡ 0x40) (eqb b 4) _ _ (λ _ h. absurd (omega arith)) (λ _ h. absurd (omega arith)))))))))
+    choose-ind (λ (c : ℕ). c ≡ configuration → i ≡ 0x40) (ltb i 0x20) _ _ (λ _ h. absurd (omega arith))
+    (λ l. choose-ind (λ (c : ℕ). c ≡ configuration → i ≡ 0x40) (ltb 0x7F i) _ _ (λ _ h. absurd (omega arith))
+    (λ u. choose-ind (λ (c : ℕ). c ≡ configuration → i ≡ 0x40) (leb 0x60 i) _ _ (λ e h. absurd (omega (arith, ltb-false 0x7F i u)))
+    (λ e. choose-ind (λ (c : ℕ). c ≡ configuration → i ≡ 0x40) (ltb i 0x50) _ _ (λ g h. omega arith)
+    (λ g. choose-ind (λ (c : ℕ). c ≡ configuration → i ≡ 0x40) (eqb b 0) _ _ (λ _ h. omega arith)
+    (λ _. choose-ind (λ (c : ℕ). c ≡ configuration → i ≡ 0x40) (eqb b 1) _ _ (λ _ h. absurd (omega arith))
+    (λ _. choose-ind (λ (c : ℕ). c ≡ configuration → i ≡ 0x40) (eqb b 2) _ _ (λ _ h. absurd (omega arith))
+    (λ _. choose-ind (λ (c : ℕ). c ≡ configuration → i ≡ 0x40) (eqb b 4) _ _ (λ _ h. absurd (omega arith)) (λ _ h. absurd (omega arith)))))))))
 
 -- a write elsewhere is no rewrite
-none-at : (f : ℕ) (d : Divisor) (l k v : ℕ) → k ≢ fanLimit f → k ≢ 39 → k ≢ 43 → k ≢ 61 → rewrites (settings f d l) k v ≡ false
+none-at : (f : ℕ) (d : Divisor) (l k v : ℕ) → k ≢ fanLimit f → k ≢ at 0x47 → k ≢ at 0x4B → k ≢ at 0x5D → rewrites (settings f d l) k v ≡ false
 unfolding digitsOf
 none-at f d l k v n p q r =
     simp (ne-eqb k (fanLimit f) n)
-    (places-ind (λ (qs : List Place). rewrites (digitsOf qs (exponentOf d)) k v ≡ false) f (simp (ne-eqb k 39 p, ne-eqb k 61 r))
-    (simp (ne-eqb k 39 p, ne-eqb k 61 r)) (simp (ne-eqb k 43 q, ne-eqb k 61 r)))
+    (places-ind (λ (qs : List Place). rewrites (digitsOf qs (exponentOf d)) k v ≡ false) f (simp (ne-eqb k (at 0x47) p, ne-eqb k (at 0x5D) r))
+    (simp (ne-eqb k (at 0x47) p, ne-eqb k (at 0x5D) r)) (simp (ne-eqb k (at 0x4B) q, ne-eqb k (at 0x5D) r)))
 
--- every setting lies below cell 64
-none-above : (f : ℕ) (d : Divisor) (l k v : ℕ) → f ≤ 3 → 64 ≤ k → rewrites (settings f d l) k v ≡ false
+-- every setting lies in bank 0
+none-above : (f : ℕ) (d : Divisor) (l k v : ℕ) → f ≤ 3 → first ≤ k → rewrites (settings f d l) k v ≡ false
 none-above f d l k v g h = none-at f d l k v (λ e. omega arith) (λ e. omega arith) (λ e. omega arith) (λ e. omega arith)
 
 rewrites-there : (f : ℕ) (d : Divisor) (l b i v : ℕ) → f ≤ 3 → rewrites (settings f d l) (reached i) v ≡ false → rewrites (settings f d l) (cellOf b i) v ≡ false
-rewrites-there f d l b i v h n = go (decLt (cellOf b i) 64)
+rewrites-there f d l b i v h n = go (decLt (cellOf b i) first)
   where
-    go : Dec (cellOf b i < 64) → rewrites (settings f d l) (cellOf b i) v ≡ false
+    go : Dec (cellOf b i < first) → rewrites (settings f d l) (cellOf b i) v ≡ false
     go (yes q) = rw (← reached-is b i q) n
     go (no q) = none-above f d l (cellOf b i) v h (omega arith)
 
@@ -223,40 +227,40 @@ write-stands f s i v p h g n =
 
 -- ---- the other way: a write that leaves the plan's limit and divisor is no rewrite
 
--- in banks 1, 2 and 4 there is no 5Dh
-no-5d : (c : ℕ) → writeAnswer c ≡ 0 → (c ≢ 77) × (c ≢ 93) × (c ≢ 109) × (c ≢ 112)
+-- in banks 1, 2 and 4 there is no 5Dh, and past the last cell nothing
+no-5d : (c : ℕ) → writeAnswer c ≡ 0 → (c ≢ atBank 1 0x5D) × (c ≢ atBank 2 0x5D) × (c ≢ atBank 4 0x5D) × (c ≢ cells)
 unfolding writeAnswer presentAt rows
 no-5d c a = (λ e. refuses (rw e at a), λ e. refuses (rw e at a), λ e. refuses (rw e at a), λ e. refuses (rw e at a))
   where
     refuses : _≡_ {A = ℕ} 1 0 → ⊥
     refuses z = omega arith
 
-banked : (b i : ℕ) → writeAnswer (cellOf b i) ≡ 0 → 64 ≤ cellOf b i → (48 ≤ reached i) × (reached i ≢ 61)
+banked : (b i : ℕ) → writeAnswer (cellOf b i) ≡ 0 → first ≤ cellOf b i → (at 0x50 ≤ reached i) × (reached i ≢ at 0x5D)
 unfolding cellOf
 banked b i =
-    choose-ind Banked (ltb i 0x20) _ _ (λ _ a h. absurd (no-5d 112 a .3 refl))
-    (λ l. choose-ind Banked (ltb 0x7F i) _ _ (λ _ a h. absurd (no-5d 112 a .3 refl))
+    choose-ind Banked (ltb i 0x20) _ _ (λ _ a h. absurd (no-5d cells a .3 refl))
+    (λ l. choose-ind Banked (ltb 0x7F i) _ _ (λ _ a h. absurd (no-5d cells a .3 refl))
     (λ u. choose-ind Banked (leb 0x60 i) _ _ (λ e a h. absurd (omega (arith, ltb-false 0x7F i u)))
     (λ e. choose-ind Banked (ltb i 0x50) _ _ (λ g a h. absurd (omega (arith, ltb-true i 0x50 g)))
     (λ g. choose-ind Banked (eqb b 0) _ _ (λ _ a h. absurd (omega (arith, leb-false 0x60 i e)))
-    (λ _. choose-ind Banked (eqb b 1) _ _ (λ _ a h. by 64 e g (no-5d (64 + (i - 0x50)) a .0))
-    (λ _. choose-ind Banked (eqb b 2) _ _ (λ _ a h. by 80 e g (no-5d (80 + (i - 0x50)) a .1))
-    (λ _. choose-ind Banked (eqb b 4) _ _ (λ _ a h. by 96 e g (no-5d (96 + (i - 0x50)) a .2)) (λ _ a h. absurd (no-5d 112 a .3 refl)))))))))
+    (λ _. choose-ind Banked (eqb b 1) _ _ (λ _ a h. by (atBank 1 0x50) e g (no-5d (atBank 1 0x50 + (i - 0x50)) a .0))
+    (λ _. choose-ind Banked (eqb b 2) _ _ (λ _ a h. by (atBank 2 0x50) e g (no-5d (atBank 2 0x50 + (i - 0x50)) a .1))
+    (λ _. choose-ind Banked (eqb b 4) _ _ (λ _ a h. by (atBank 4 0x50) e g (no-5d (atBank 4 0x50 + (i - 0x50)) a .2)) (λ _ a h. absurd (no-5d cells a .3 refl)))))))))
   where
     Banked : ℕ → Type 0
-    Banked c = writeAnswer c ≡ 0 → 64 ≤ c → (48 ≤ reached i) × (reached i ≢ 61)
+    Banked c = writeAnswer c ≡ 0 → first ≤ c → (at 0x50 ≤ reached i) × (reached i ≢ at 0x5D)
 
-    by : (n : ℕ) → leb 0x60 i ≡ false → ltb i 0x50 ≡ false → n + (i - 0x50) ≢ n + 13 → (48 ≤ reached i) × (reached i ≢ 61)
+    by : (n : ℕ) → leb 0x60 i ≡ false → ltb i 0x50 ≡ false → n + (i - 0x50) ≢ n + (0x5D - 0x50) → (at 0x50 ≤ reached i) × (reached i ≢ at 0x5D)
     by n e g m = simp e (omega (arith, ltb-false i 0x50 g), λ z. m (omega (arith, ltb-false i 0x50 g)))
 
 rewrites-here : (f : ℕ) (d : Divisor) (l b i v : ℕ) → f ≤ 3 → writeAnswer (cellOf b i) ≡ 0 → rewrites (settings f d l) (cellOf b i) v ≡ false
     → rewrites (settings f d l) (reached i) v ≡ false
-rewrites-here f d l b i v h a n = go (decLt (cellOf b i) 64)
+rewrites-here f d l b i v h a n = go (decLt (cellOf b i) first)
   where
-    go : Dec (cellOf b i < 64) → rewrites (settings f d l) (reached i) v ≡ false
+    go : Dec (cellOf b i < first) → rewrites (settings f d l) (reached i) v ≡ false
     go (yes q) = rw (reached-is b i q) n
     go (no q) =
-        let w : (48 ≤ reached i) × (reached i ≢ 61) = banked b i a (omega arith) in
+        let w : (at 0x50 ≤ reached i) × (reached i ≢ at 0x5D) = banked b i a (omega arith) in
         none-at f d l (reached i) v (λ e. omega (arith, w .0)) (λ e. omega (arith, w .0)) (λ e. omega (arith, w .0)) (w .1)
 
 -- a divisor's bits are all writable

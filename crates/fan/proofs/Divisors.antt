@@ -11,8 +11,7 @@ use lib.Pow.{pow-pos, pow-mono, pow-lt}
 use Rattle.bits.proofs.Every.{same-below}
 use Rattle.fan.specs.declared.Divisor.{Divisor}
 use Rattle.fan.specs.declared.Divisor.the-variants.{By1, By2, By4, By8, By16, By32, By64, By128}
-use Rattle.fan.specs.Count.{exponentOf, valueOf, divisors, fromBits}
-use Rattle.fan.specs.Plan.{IsDivisor}
+use Rattle.fan.specs.Count.{exponentOf, valueOf, divisors, fromBits, IsDivisor}
 
 pub exponent-lt : (d : Divisor) → exponentOf d < 8
 exponent-lt By1 = lit< tt

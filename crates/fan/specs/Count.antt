@@ -1,5 +1,6 @@
 -- Fan counts, as counted and after division. Document 01, "What a sample does".
-use Prim.Native.Nat.{ℕ, _*_, _/_, _%_, _^_, min}
+use Prim.Native.Nat.{ℕ, _*_, _/_, _%_, _^_, _<_, min}
+use mathlib.Core.Path.{_≡_}
 use mathlib.Core.Bool.{Bool}
 use mathlib.Core.List.{List, [], _∷_}
 use lib.Dec.{eqb, ltb}
@@ -34,6 +35,12 @@ divisors = By1 ∷ By2 ∷ By4 ∷ By8 ∷ By16 ∷ By32 ∷ By64 ∷ By128 ∷ 
 -- "k being three bits": the low three of any number
 unfoldable pub fromBits : ℕ → Divisor
 fromBits n = getD divisors (n % 8) By1
+
+-- one of the eight as a number: "2 to the power k, k being three bits"
+pub record IsDivisor (d : ℕ) : Type 0 where
+  pub exponent : ℕ
+  pub three-bits : exponent < 8
+  pub power : d ≡ 2 ^ exponent
 
 -- "the stored count is u divided by the divisor, rounded down, at most 255"
 abbrev pub storedOf : ℕ → ℕ → ℕ

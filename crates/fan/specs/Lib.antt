@@ -1,5 +1,3 @@
 pub mod Count
 pub mod Divisors
-pub mod Plan
-pub mod Search
 pub mod Speed

@@ -1,11 +1,9 @@
-// Fans: counts as counted and after division, the plan of a fan alarm, and the speed reading.
+// Fans: counts as counted and after division, the eight divisors and where their bits lie, and the speed reading.
 ghost use mathlib.Core.Path.{_≡_};
 ghost use Prim.Native.Nat.{_<_, _%_, _^_};
 ghost use Rattle.fan.specs.Count.{exponentOf, valueOf, fromBits, storedOf, overLimit};
 ghost use Rattle.fields.specs.Fields.{placesOf};
 ghost use Rattle.fan.specs.Divisors.{divisorAt, withDivisor, Fields};
-ghost use Rattle.fan.specs.Plan.{ringsFrom, IsPlanned, Plans};
-ghost use Rattle.fan.specs.Search.{choiceAt, productOf, better, bestTo, planOf};
 ghost use Rattle.fan.specs.Speed.{speedOf};
 use fields::Field;
 use fields::gather;
@@ -13,7 +11,7 @@ use fields::replace;
 use rounding::rounded;
 
 // What a fan at one turn a minute counts.
-const PER_MINUTE: u32 = 1350000;
+pub const PER_MINUTE: u32 = 1350000;
 
 // The largest count that a byte holds: a stored count stops there.
 const FULL: u8 = 255;
@@ -36,14 +34,6 @@ pub enum Divisor {
     By128,
 }
 
-// What planning answers.
-pub enum Planned {
-    // A divisor and a limit of 0 to 254.
-    Plan { divisor: Divisor, limit: u8 },
-    // Answer 6: no plan.
-    Refused,
-}
-
 // What reading a fan's speed answers.
 pub enum Speed {
     // Turns a minute.
@@ -54,12 +44,6 @@ pub enum Speed {
     TooSlow,
     // Answer 7: there is no such fan.
     Refused,
-}
-
-// A divisor with the number of its counts, a limit plus one, that planning weighs.
-struct Choice {
-    divisor: Divisor,
-    counts: u8,
 }
 
 impl Divisor {
@@ -135,73 +119,6 @@ pub fn rings(count: Divided, limit: u8) -> bool
     ensures { λ r. ⌜ r ≡ overLimit (count .0) limit ⌝ }
 {
     limit < count.0
-}
-
-// The most counts of a divisor that stay within k, the undivided count of the speed asked for.
-fn choice_at(k: u32, divisor: Divisor) -> Choice
-    ensures { λ r. ⌜ r ≡ choiceAt k divisor ⌝ }
-{
-    let counts = divide(Undivided(k), divisor);
-    Choice {
-        divisor,
-        counts: counts.0,
-    }
-}
-
-// The undivided count from which a choice rings.
-fn product(choice: Choice) -> u32
-    ensures { λ r. ⌜ r ≡ productOf choice ⌝ }
-{
-    let divisor = choice.divisor;
-    (choice.counts as u32) * (divisor.value() as u32)
-}
-
-// The better of a choice and one more divisor.
-fn better_of(k: u32, best: Choice, divisor: Divisor) -> Choice
-    ensures { λ r. ⌜ r ≡ better k best divisor ⌝ }
-{
-    let next = choice_at(k, divisor);
-    if product(best) < product(next) {
-        return next;
-    }
-    best
-}
-
-// The best choice of the eight divisors, in rising order.
-fn best_choice(k: u32) -> Choice
-    ensures { λ r. ⌜ r ≡ bestTo k 7 ⌝ }
-{
-    let mut best = choice_at(k, Divisor::from_bits(0));
-    for e in 0..7u8 {
-        best = better_of(k, best, Divisor::from_bits(e + 1));
-    }
-    best
-}
-
-// The divisor and limit whose alarm comes nearest to w turns a minute and misses no slower speed.
-// Refused for 0 and above 1,350,000.
-pub fn plan(w: u32) -> Planned
-    ensures { λ r. ⌜ (r ≡ planOf w) × IsPlanned w r × Plans ⌝ }
-{
-    if w == 0 {
-        return Planned::Refused;
-    }
-    if PER_MINUTE < w {
-        return Planned::Refused;
-    }
-    let best = best_choice(PER_MINUTE / w);
-    let divisor = best.divisor;
-    Planned::Plan {
-        divisor,
-        limit: best.counts - 1,
-    }
-}
-
-// The undivided count from which a divisor and a limit ring.
-pub fn rings_from(divisor: Divisor, limit: u8) -> u32
-    ensures { λ r. ⌜ r ≡ ringsFrom (valueOf divisor) limit ⌝ }
-{
-    (limit as u32 + 1) * (divisor.value() as u32)
 }
 
 impl Divided {

@@ -3,7 +3,7 @@
 use mathlib.Core.Path.{refl}
 use Rattle.rounding.specs.Rounding.{nearest}
 use Rattle.fan.specs.Count.{fromBits}
-use Rattle.fan.specs.Search.{better, bestTo, planOf}
+use Rattle.planner.specs.Search.{better, bestTo, planOf}
 use Rattle.fan.specs.Speed.{speedOf}
 use Rattle.analog.specs.Readings.{railOf, millivoltsOf}
 use Rattle.figures.specs.Figures.{Figures}

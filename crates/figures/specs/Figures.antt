@@ -3,8 +3,8 @@ use Prim.Native.Nat.{ℕ}
 use mathlib.Core.Path.{_≡_}
 use mathlib.Core.List.{List, [], _∷_, map}
 use lib.IntN.{ℤ, pos, negℤ}
-use Rattle.fan.specs.Plan.{planAnswer, planDivisor, planLimit}
-use Rattle.fan.specs.Search.{planOf}
+use Rattle.planner.specs.Plan.{planAnswer, planDivisor, planLimit}
+use Rattle.planner.specs.Search.{planOf}
 use Rattle.fan.specs.Speed.{speedAnswer, speedValue, speedOf}
 use Rattle.analog.specs.Readings.{readingAnswer, readingValue, millivoltsOf}
 

@@ -19,7 +19,7 @@ use Rattle.bits.proofs.BitLaws.{choose-ind}
 use Rattle.bits.proofs.Every.{same-below, same-tests}
 use Rattle.bits.proofs.ChangeLaws.{and-left, and-right, or-left, or-right, changes-length}
 use Rattle.fan.specs.Count.{exponentOf, valueOf}
-use Rattle.fan.specs.Plan.{IsPlan}
+use Rattle.planner.specs.Plan.{IsPlan}
 use Rattle.fan.specs.declared.Divisor.{Divisor}
 use Rattle.alarm.specs.Alarm.{differs, rewrites}
 use Rattle.alarm.proofs.Writes.{field-kept, cell-kept, within, field-agrees, cell-agrees}

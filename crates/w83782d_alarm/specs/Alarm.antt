@@ -9,11 +9,11 @@ use lib.Dec.{eqb, leb}
 use lib.ListN.{length, getD}
 use Rattle.bits.specs.Bits.{choose, bit, isOn, flagOf, changes}
 use Rattle.fan.specs.Count.{perMinute, valueOf, countOf}
-use Rattle.fan.specs.Plan.{planRings}
-use Rattle.fan.specs.Search.{planOf}
+use Rattle.planner.specs.Plan.{planRings}
+use Rattle.planner.specs.Search.{planOf}
 use Rattle.fan.specs.declared.Divisor.{Divisor}
-use Rattle.fan.specs.declared.Planned.{Planned}
-use Rattle.fan.specs.declared.Planned.the-variants.{Plan, Refused}
+use Rattle.planner.specs.declared.Planned.{Planned}
+use Rattle.planner.specs.declared.Planned.the-variants.{Plan, Refused}
 use Rattle.alarm.specs.Alarm.{Force, none, plan, Machine, Everywhere, rewrites}
 use Rattle.samples.specs.declared.Sample.{Sample}
 use Rattle.w83782d_map.specs.Map.{cells, at}

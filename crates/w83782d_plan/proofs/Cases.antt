@@ -14,11 +14,11 @@ use Rattle.fields.specs.declared.Field.{Field}
 use Rattle.bits.proofs.BitLaws.{choose-ind}
 use Rattle.bits.proofs.ChangeLaws.{or-left, or-right}
 use Rattle.fan.specs.Divisors.{withDivisor}
-use Rattle.fan.specs.Plan.{planAnswer}
-use Rattle.fan.specs.Search.{planOf}
+use Rattle.planner.specs.Plan.{planAnswer}
+use Rattle.planner.specs.Search.{planOf}
 use Rattle.fan.specs.declared.Divisor.{Divisor}
-use Rattle.fan.specs.declared.Planned.{Planned}
-use Rattle.fan.specs.declared.Planned.the-variants.{Plan, Refused}
+use Rattle.planner.specs.declared.Planned.{Planned}
+use Rattle.planner.specs.declared.Planned.the-variants.{Plan, Refused}
 use Rattle.w83782d_latches.specs.declared.Latches.{Latches}
 use Rattle.w83782d_map.specs.Map.{cells}
 use Rattle.w83782d_bus.specs.Bus.{State, state, Written, written, sized}

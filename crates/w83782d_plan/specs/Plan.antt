@@ -6,11 +6,11 @@ use lib.Dec.{ltb}
 use Rattle.bits.specs.Bits.{choose, Change, change, changes}
 use Rattle.fields.specs.Fields.{digitsOf}
 use Rattle.fan.specs.Count.{exponentOf}
-use Rattle.fan.specs.Plan.{planAnswer}
-use Rattle.fan.specs.Search.{planOf}
+use Rattle.planner.specs.Plan.{planAnswer}
+use Rattle.planner.specs.Search.{planOf}
 use Rattle.fan.specs.declared.Divisor.{Divisor}
-use Rattle.fan.specs.declared.Planned.{Planned}
-use Rattle.fan.specs.declared.Planned.the-variants.{Plan, Refused}
+use Rattle.planner.specs.declared.Planned.{Planned}
+use Rattle.planner.specs.declared.Planned.the-variants.{Plan, Refused}
 use Rattle.w83782d_bus.specs.Bus.{State, state, Written, written}
 use Rattle.w83782d_sample.specs.Sample.{fanLimit}
 use Rattle.w83782d_store.specs.Stored.{divisorPlaces}

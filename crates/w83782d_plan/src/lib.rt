@@ -1,12 +1,12 @@
 // Setting a plan, in place on the registers' slice with the latches by value.
 ghost use mathlib.Core.Path.{_≡_};
 ghost use Prim.Native.Nat.{_<_};
-ghost use Rattle.fan.specs.Plan.{planAnswer};
+ghost use Rattle.planner.specs.Plan.{planAnswer};
 ghost use Rattle.w83782d_bus.specs.Bus.{state, sized, wroteIn};
 ghost use Rattle.w83782d_plan.specs.Plan.{plannedRegisters, setPlanOf};
 use bits::store;
-use fan::Planned;
-use fan::plan;
+use planner::Planned;
+use planner::plan;
 use w83782d_bus::Wrote;
 use w83782d_latches::Latches;
 use w83782d_map::CELLS;

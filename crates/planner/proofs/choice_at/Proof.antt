@@ -3,8 +3,8 @@
 use Prim.Native.Nat.{ℕ}
 use mathlib.Core.Path.{ap}
 use borrow.Author.Needs.{needs}
-use Rattle.fan.proofs.choice_at.Statement.{statement}
-use Rattle.fan.proofs.choice_at.Tie as tie
+use Rattle.planner.proofs.choice_at.Statement.{statement}
+use Rattle.planner.proofs.choice_at.Tie as tie
 
 divide-requires : tie.Need-divide-requires
 divide-requires c κs = search needs

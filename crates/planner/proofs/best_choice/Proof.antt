@@ -4,11 +4,11 @@ use native.Mathlib.Omega.{arith}
 use Prim.Native.Nat.{_-_, _≤_}
 use mathlib.Core.Path.{_≡_, ap, _∙_}
 use borrow.Author.Needs.{needs}
 use Rattle.fan.specs.declared.Divisor.{Divisor}
-use Rattle.fan.specs.Search.{choiceAt, bestTo}
-use Rattle.fan.proofs.Best.{one-more}
-use Rattle.fan.proofs.best_choice.Statement.{statement}
-use Rattle.fan.proofs.best_choice.Tie as tie
+use Rattle.planner.specs.Search.{choiceAt, bestTo}
+use Rattle.planner.proofs.Best.{one-more}
+use Rattle.planner.proofs.best_choice.Statement.{statement}
+use Rattle.planner.proofs.best_choice.Tie as tie
 
 abbrev Inv-loop : tie.InvT-loop
 Inv-loop k best₀ e₀ best e = (e ≤ 7) × (best ≡ bestTo k e)

@@ -4,9 +4,9 @@ use native.Mathlib.Omega.{arith}
 use Prim.Native.Nat.{ℕ, _*_}
 use mathlib.Core.Path.{ap}
 use borrow.Author.Needs.{needs}
 use Rattle.fan.proofs.Divisors.{product-le}
-use Rattle.fan.proofs.product.Statement.{statement}
-use Rattle.fan.proofs.product.Tie as tie
+use Rattle.planner.proofs.product.Statement.{statement}
+use Rattle.planner.proofs.product.Tie as tie
 
 cast-result : tie.Need-cast-result
 cast-result c = search needs

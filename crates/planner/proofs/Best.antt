@@ -12,11 +12,11 @@ use lib.Dec.{ltb}
 use lib.Pow.{pow-pos, pow-mono}
 use borrow.Author.Tests.{ltb-true, ltb-false, lt-ltb, le-ltb}
 use Rattle.bits.specs.Bits.{choose}
-use Rattle.fan.specs.declared.Choice.{Choice}
+use Rattle.planner.specs.declared.Choice.{Choice}
 use Rattle.fan.specs.declared.Divisor.{Divisor}
 use Rattle.fan.specs.Count.{exponentOf, valueOf, fromBits}
-use Rattle.fan.specs.Search.{productOf, choiceAt, better, bestTo}
+use Rattle.planner.specs.Search.{productOf, choiceAt, better, bestTo}
 use Rattle.fan.proofs.Divisors.{exponent-from-bits, value-from-bits, value-pos}
 
 pub record Best (k e : ℕ) (c : Choice) : Type 0 where
   pub exponent-le : exponentOf (c .divisor) ≤ e

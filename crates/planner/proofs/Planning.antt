@@ -8,16 +8,16 @@ use mathlib.Core.Bool.{Bool, true, false, _||_}
 use lib.Dec.{eqb, ltb}
 use borrow.Author.Tests.{eqb-false, ltb-true, ltb-false, eq-eqb, ne-eqb, lt-ltb, le-ltb}
 use Rattle.bits.specs.Bits.{choose}
-use Rattle.fan.specs.declared.Choice.{Choice}
+use Rattle.planner.specs.declared.Choice.{Choice}
 use Rattle.fan.specs.declared.Divisor.{Divisor}
-use Rattle.fan.specs.declared.Planned.{Planned}
-use Rattle.fan.specs.declared.Planned.the-variants.{Plan, Refused}
+use Rattle.planner.specs.declared.Planned.{Planned}
+use Rattle.planner.specs.declared.Planned.the-variants.{Plan, Refused}
 use Rattle.fan.specs.Count.{perMinute, valueOf, storedOf, countOf}
-use Rattle.fan.specs.Plan.{IsPlan, IsPlanned, Plans, ringsFrom, asked, ringsAt}
-use Rattle.fan.specs.Search.{productOf, bestTo, plannedBy, planOf}
+use Rattle.planner.specs.Plan.{IsPlan, IsPlanned, Plans, ringsFrom, asked, ringsAt}
+use Rattle.planner.specs.Search.{productOf, bestTo, plannedBy, planOf}
 use Rattle.fan.proofs.Divisors.{value-pos, value-is, value-inj, divisor-pos}
-use Rattle.fan.proofs.Counts.{ring-le, le-ring, rings-as-planned, count-ge, count-le}
-use Rattle.fan.proofs.Best.{Best, best-of-eight, counts-pos}
+use Rattle.planner.proofs.Ringing.{ring-le, le-ring, rings-as-planned, count-ge, count-le}
+use Rattle.planner.proofs.Best.{Best, best-of-eight, counts-pos}
 
 -- a speed that is planned has a count
 asked-pos : (w : ℕ) → (w ≡ 0 → ⊥) → w ≤ perMinute → 1 ≤ asked w

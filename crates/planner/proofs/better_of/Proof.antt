@@ -1,9 +1,9 @@
 -- The test compares the two products, as the definition does.
 -- Assumes nothing.
 use borrow.Author.Needs.{needs}
-use Rattle.fan.proofs.Best.{taken, kept}
-use Rattle.fan.proofs.better_of.Statement.{statement}
-use Rattle.fan.proofs.better_of.Tie as tie
+use Rattle.planner.proofs.Best.{taken, kept}
+use Rattle.planner.proofs.better_of.Statement.{statement}
+use Rattle.planner.proofs.better_of.Tie as tie
 
 choice-at-requires : tie.Need-choice-at-requires
 choice-at-requires c κs = search needs

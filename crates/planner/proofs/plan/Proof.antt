@@ -2,9 +2,9 @@
 -- Assumes nothing.
 use native.Mathlib.Omega.{arith}
 use borrow.Author.Needs.{needs}
-use Rattle.fan.proofs.Planning.{none-asked, too-much-asked, found, counts-of, promised}
-use Rattle.fan.proofs.plan.Statement.{statement}
-use Rattle.fan.proofs.plan.Tie as tie
+use Rattle.planner.proofs.Planning.{none-asked, too-much-asked, found, counts-of, promised}
+use Rattle.planner.proofs.plan.Statement.{statement}
+use Rattle.planner.proofs.plan.Tie as tie
 
 returns : tie.Need-returns
 returns c = promised _ (none-asked _ (c .if1 .taken))

@@ -3,11 +3,11 @@ use Prim.Native.Nat.{ℕ, zero, suc, _-_, _*_, _/_, min}
 use mathlib.Core.Bool.{_||_}
 use lib.Dec.{ltb, eqb}
 use Rattle.bits.specs.Bits.{choose}
-use Rattle.fan.specs.declared.Choice.{Choice}
-use Rattle.fan.specs.declared.Planned.{Planned}
-use Rattle.fan.specs.declared.Planned.the-variants.{Plan, Refused}
+use Rattle.planner.specs.declared.Choice.{Choice}
+use Rattle.planner.specs.declared.Planned.{Planned}
+use Rattle.planner.specs.declared.Planned.the-variants.{Plan, Refused}
 use Rattle.fan.specs.declared.Divisor.{Divisor}
 use Rattle.fan.specs.Count.{perMinute, valueOf, fromBits}
 
 -- a divisor with the most counts of it that stay within k, at most 255
 abbrev pub choiceAt : ℕ → Divisor → Choice

@@ -4,9 +4,9 @@ use native.Mathlib.Omega.{arith}
 use Prim.Native.Nat.{ℕ, _+_, _*_, _≤_}
 use mathlib.Core.Path.{ap}
 use borrow.Author.Needs.{needs}
 use Rattle.fan.proofs.Divisors.{product-le}
-use Rattle.fan.proofs.rings_from.Statement.{statement}
-use Rattle.fan.proofs.rings_from.Tie as tie
+use Rattle.planner.proofs.rings_from.Statement.{statement}
+use Rattle.planner.proofs.rings_from.Tie as tie
 
 add-result : tie.Need-add-result
 add-result c = search needs

@@ -4,9 +4,9 @@ use mathlib.Core.Path.{_≡_}
 use mathlib.Core.Bool.{Bool, true, _||_}
 use lib.Dec.{eqb, leb, ltb}
 use Rattle.bits.specs.Bits.{choose}
-use Rattle.fan.specs.declared.Planned.{Planned}
-use Rattle.fan.specs.declared.Planned.the-variants.{Plan, Refused}
-use Rattle.fan.specs.Count.{perMinute, valueOf, storedOf, countOf, overLimit}
+use Rattle.planner.specs.declared.Planned.{Planned}
+use Rattle.planner.specs.declared.Planned.the-variants.{Plan, Refused}
+use Rattle.fan.specs.Count.{perMinute, valueOf, IsDivisor, storedOf, countOf, overLimit}
 
 -- the number of the answer table: a plan is accepted, "6: planned speed 0 or above 1,350,000"
 abbrev pub planAnswer : Planned → ℕ
@@ -22,12 +22,6 @@ planDivisor Refused = 0
 abbrev pub planLimit : Planned → ℕ
 planLimit (Plan d l) = l
 planLimit Refused = 0
-
--- one of the eight divisors: "2 to the power k, k being three bits"
-pub record IsDivisor (d : ℕ) : Type 0 where
-  pub exponent : ℕ
-  pub three-bits : exponent < 8
-  pub power : d ≡ 2 ^ exponent
 
 -- (L+1)d, the least u that a divisor d and a limit L from 0 to 254 ring for
 abbrev pub ringsFrom : ℕ → ℕ → ℕ

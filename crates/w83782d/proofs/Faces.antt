@@ -18,7 +18,7 @@ use Rattle.event.specs.declared.Event.{Event}
 use Rattle.samples.specs.declared.Sample.{Sample}
 use Rattle.w83782d_replay.specs.Replay as Replay
 use Rattle.w83782d_sample.specs.Sample as Rule
-use Rattle.w83782d_plan.specs.Plan as Plan
+use Rattle.w83782d_settings.specs.Plan as Plan
 use Rattle.w83782d.specs.declared.Monitor.{Monitor}
 use Rattle.w83782d.specs.Monitor.{stateOf, monitorOf, answered, shown, powerOnOf, writeOf, readOf, sampleOf, setPlanOf, applyOf, ovtOf}
 

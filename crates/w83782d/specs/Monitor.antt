@@ -9,7 +9,7 @@ use Rattle.event.specs.declared.Event.{Event}
 use Rattle.samples.specs.declared.Sample.{Sample}
 use Rattle.w83782d_sample.specs.Sample as Rule
 use Rattle.w83782d_replay.specs.Replay as Replay
-use Rattle.w83782d_plan.specs.Plan as Plan
+use Rattle.w83782d_settings.specs.Plan as Plan
 use Rattle.w83782d_bus.specs.Bus as Bus
 use Rattle.w83782d_latches.specs.Effects.{openedLatches}
 use Rattle.w83782d_bus.specs.Bus.{State, Written, Read, powerOn}

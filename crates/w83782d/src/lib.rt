@@ -3,7 +3,7 @@
 ghost use mathlib.Core.Path.{_≡_};
 ghost use Rattle.w83782d_bus_laws.specs.Claims.{WriteClaims, ReadClaims, OpenedClaims};
 ghost use Rattle.w83782d_sample_laws.specs.Claims.{SampleClaims};
-ghost use Rattle.w83782d_plan.specs.Claims.{PlanClaims};
+ghost use Rattle.w83782d_settings.specs.Claims.{PlanClaims};
 ghost use Rattle.w83782d_alarm.specs.Alarm.{AlarmRings};
 ghost use Rattle.w83782d_readings.specs.Outputs.{smiOf, standingAlarms};
 ghost use Rattle.w83782d_readings.specs.Readings.{voltageOf, speedOf, temperatureOf, dutyOf};

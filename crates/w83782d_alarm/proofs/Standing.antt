@@ -37,9 +37,9 @@ use Rattle.w83782d_sample.specs.Sample.{fanLimit}
 use Rattle.w83782d_store.specs.Stored.{divisorPlaces}
 use Rattle.w83782d_sample_laws.specs.Claims.{touched}
 use Rattle.w83782d_sample_laws.proofs.Stores.{frame}
-use Rattle.w83782d_plan.specs.Plan.{settings}
+use Rattle.w83782d_settings.specs.Plan.{settings}
 use Rattle.w83782d_alarm.specs.Alarm.{Set, isReset, reached}
-use Rattle.w83782d_plan.proofs.Settings.{places-ind}
+use Rattle.w83782d_settings.proofs.Settings.{places-ind}
 
 -- the plan of fan f stands in the registers
 pub record Stands (f : ℕ) (rs : List ℕ) (p : Set) : Type 0 where

@@ -23,8 +23,8 @@ use Rattle.w83782d_store.specs.Stored as Stored
 use Rattle.w83782d_store.specs.Stored.{divisorOf}
 use Rattle.w83782d_sample.specs.Sample.{fanLimit, sampleOf}
 use Rattle.w83782d_sample_laws.specs.Claims.{fanBit}
-use Rattle.w83782d_plan.specs.Plan.{settings, setPlanOf}
-use Rattle.w83782d_plan.specs.Claims.{PlanSet}
+use Rattle.w83782d_settings.specs.Plan.{settings, setPlanOf}
+use Rattle.w83782d_settings.specs.Claims.{PlanSet}
 
 -- ---- "Its calls are bus write, bus read, sample, chassis opened and setting a plan"
 pub data Call : Type 0 where

@@ -1,30 +1,25 @@
--- Each answer of setting a plan, and what it leaves.
+-- Each way through the code of setting a plan.
 -- Assumes nothing.
-use mathlib.Core.Path.{_≡_, refl}
+use mathlib.Core.Path.{_≡_}
 use mathlib.Core.List.{List, [], _∷_}
-use mathlib.Core.Logic.{_≢_}
 use Prim.Native.Nat.{ℕ, _<_, _≤_}
-use native.Mathlib.Omega.{arith}
-use borrow.Author.Tests.{eq-eqb, ne-eqb, lt-ltb, le-ltb, ltb-false}
-use lib.Dec.{ltb}
+use borrow.Author.Tests.{eq-eqb, ne-eqb, lt-ltb, le-ltb}
 use lib.ListN.{length}
 use Rattle.bits.specs.Bits.{change, changes}
 use Rattle.fields.specs.Fields.{placesOf}
 use Rattle.fields.specs.declared.Field.{Field}
-use Rattle.bits.proofs.BitLaws.{choose-ind}
-use Rattle.bits.proofs.ChangeLaws.{or-left, or-right}
 use Rattle.fan.specs.Divisors.{withDivisor}
 use Rattle.planner.specs.Plan.{planAnswer}
 use Rattle.planner.specs.Search.{planOf}
 use Rattle.fan.specs.declared.Divisor.{Divisor}
 use Rattle.planner.specs.declared.Planned.{Planned}
-use Rattle.planner.specs.declared.Planned.the-variants.{Plan, Refused}
+use Rattle.planner.specs.declared.Planned.the-variants.{Plan}
 use Rattle.w83782d_latches.specs.declared.Latches.{Latches}
 use Rattle.w83782d_map.specs.Map.{cells}
-use Rattle.w83782d_bus.specs.Bus.{State, state, Written, written, sized}
+use Rattle.w83782d_bus.specs.Bus.{state, written, sized}
 use Rattle.w83782d_store.specs.Stored.{divisorPlaces}
 use Rattle.w83782d_sample.specs.Sample.{fanLimit}
-use Rattle.w83782d_plan.specs.Plan.{settings, plannedRegisters, isNoFan, setPlanOf}
+use Rattle.w83782d_settings.specs.Plan.{plannedRegisters, setPlanOf}
 
 -- the limit's cell, then the divisor's field
 pub plan-put : (rs ss ts : List ℕ) (f l : ℕ) (d : Divisor) (p : Field) (q : Planned) → ss ≡ changes rs (change (fanLimit f) 0xFF l ∷ []) → placesOf p ≡ divisorPlaces f
@@ -52,20 +47,3 @@ module _ (rs : List ℕ) (l : Latches) (f w : ℕ) where
         → written (state ts l) a ≡ sized rs l (setPlanOf (state rs l) f w)
     unfolding setPlanOf
     set ts a q h k p t b = simp (eq-eqb (length rs) cells e, le-ltb f 1 h, le-ltb 3 f k, t, b, p)
-
--- ---- refused, or the settings put
-pub set-view : (P : Written → Type 0) (s : State) (f w : ℕ) → ((a : ℕ) → a ≢ 0 → P (written s a))
-    → ((d : Divisor) (l : ℕ) → 1 ≤ f → f ≤ 3 → planOf w ≡ Plan d l → P (written (state (changes (s .registers) (settings f d l)) (s .latches)) 0))
-    → P (setPlanOf s f w)
-unfolding setPlanOf
-set-view P s f w refused put =
-    choose-ind P (isNoFan f) _ _ (λ _. refused 7 (λ e. omega arith))
-    (λ n. by (planOf w) refl (ltb-false f 1 (or-left (ltb f 1) (ltb 3 f) n)) (ltb-false 3 f (or-right (ltb f 1) (ltb 3 f) n)))
-  where
-    by : (p : Planned) → planOf w ≡ p → 1 ≤ f → f ≤ 3 → P (written (state (plannedRegisters (s .registers) f p) (s .latches)) (planAnswer p))
-    by (Plan d l) e h k = put d l h k e
-    by Refused e h k = refused 6 (λ z. omega arith)
-
-pub refused-plan : (s : State) (f w : ℕ) → setPlanOf s f w .answer ≢ 0 → setPlanOf s f w .state ≡ s
-refused-plan s f w =
-    set-view (λ (x : Written). x .answer ≢ 0 → x .state ≡ s) s f w (λ _ _ _. refl) (λ _ _ _ _ _ n. absurd (n refl))

@@ -3,7 +3,7 @@ ghost use mathlib.Core.Path.{_≡_};
 ghost use Prim.Native.Nat.{_<_};
 ghost use Rattle.planner.specs.Plan.{planAnswer};
 ghost use Rattle.w83782d_bus.specs.Bus.{state, sized, wroteIn};
-ghost use Rattle.w83782d_plan.specs.Plan.{plannedRegisters, setPlanOf};
+ghost use Rattle.w83782d_settings.specs.Plan.{plannedRegisters, setPlanOf};
 use bits::store;
 use planner::Planned;
 use planner::plan;

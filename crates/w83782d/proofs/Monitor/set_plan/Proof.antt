@@ -1,6 +1,6 @@
 use borrow.Author.Needs.{needs}
 use Rattle.w83782d.specs.Monitor.{stateOf}
-use Rattle.w83782d_plan.proofs.Proved.{plan-claims}
+use Rattle.w83782d_settings.proofs.Proved.{plan-claims}
 use Rattle.w83782d_alarm.proofs.Alarm.{alarm-rings}
 use Rattle.w83782d.proofs.Calls.{monitor-calls}
 use Rattle.w83782d.proofs.Faces.{plan-face}

@@ -5,7 +5,7 @@ use Rattle.rounding.specs.Rounding.{nearest}
 use Rattle.fan.specs.Count.{fromBits}
 use Rattle.planner.specs.Search.{better, bestTo, planOf}
 use Rattle.fan.specs.Speed.{speedOf}
-use Rattle.analog.specs.Readings.{railOf, millivoltsOf}
+use Rattle.voltages.specs.Readings.{railOf, millivoltsOf}
 use Rattle.figures.specs.Figures.{Figures}
 
 pub figures-hold : Figures

@@ -6,7 +6,7 @@ use lib.IntN.{ℤ, pos, negℤ}
 use Rattle.planner.specs.Plan.{planAnswer, planDivisor, planLimit}
 use Rattle.planner.specs.Search.{planOf}
 use Rattle.fan.specs.Speed.{speedAnswer, speedValue, speedOf}
-use Rattle.analog.specs.Readings.{readingAnswer, readingValue, millivoltsOf}
+use Rattle.voltages.specs.Readings.{readingAnswer, readingValue, millivoltsOf}
 
 -- what is asked: a plan for w rpm, the speed of a count and a divisor, the millivolts of a channel, a code and two resistors
 pub data Question : Type 0 where

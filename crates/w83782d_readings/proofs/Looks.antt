@@ -21,10 +21,10 @@ use Rattle.fan.specs.Speed as fan
 use Rattle.fan.specs.declared.Divisor.{Divisor}
 use Rattle.fan.specs.declared.Speed.{Speed}
 use Rattle.fan.specs.declared.Speed.the-variants as speed
-use Rattle.analog.specs.Readings.{millivoltsOf, Answers}
+use Rattle.voltages.specs.Readings.{millivoltsOf, Answers}
 use Rattle.analog.specs.Temperature.{TwosComplement}
 use Rattle.analog.specs.Pwm.{pwmParts}
-use Rattle.analog.specs.declared.Reading.{Reading}
+use Rattle.voltages.specs.declared.Reading.{Reading}
 use Rattle.w83782d_map.specs.Map.{configuration, interruptStatus1, interruptStatus2}
 use Rattle.w83782d_map.specs.Registers.{withChassis}
 use Rattle.w83782d_store.specs.Stored.{fanCount, divisorPlaces}

@@ -10,10 +10,10 @@ use Rattle.fan.specs.Count.{valueOf}
 use Rattle.fan.specs.Speed as fan
 use Rattle.fan.specs.declared.Speed.{Speed}
 use Rattle.fan.specs.declared.Speed.the-variants as speed
-use Rattle.analog.specs.Readings.{millivoltsOf}
+use Rattle.voltages.specs.Readings.{millivoltsOf}
 use Rattle.analog.specs.Temperature.{half9, signedOf, nineBits}
 use Rattle.analog.specs.Pwm.{pwmParts}
-use Rattle.analog.specs.declared.Reading.{Reading}
+use Rattle.voltages.specs.declared.Reading.{Reading}
 use Rattle.w83782d_map.specs.Map.{at}
 use Rattle.w83782d_store.specs.Stored.{sensor1Value, bankCell, fanCount, divisorOf}
 use Rattle.w83782d_readings.specs.declared.Temperature.{Temperature}

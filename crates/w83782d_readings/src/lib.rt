@@ -4,9 +4,7 @@ ghost use mathlib.Core.Path.{_≡_};
 ghost use Prim.Native.Nat.{_≤_};
 ghost use Rattle.w83782d_readings.specs.Outputs.{smiOf, standingAlarms};
 ghost use Rattle.w83782d_readings.specs.Readings.{voltageOf, speedOf, temperatureOf, dutyOf};
-use analog::Reading;
 use analog::half_degrees;
-use analog::millivolts;
 use analog::pwm_parts;
 use bits::Bit;
 use bits::cell;
@@ -14,6 +12,8 @@ use bits::is_on;
 use fan::Divided;
 use fan::Divisor;
 use fan::Speed;
+use voltages::Reading;
+use voltages::millivolts;
 use w83782d_map::with_chassis;
 use w83782d_store::divisor_field;
 

@@ -4,10 +4,10 @@ use mathlib.Core.Path.{ap, _∙_}
 use mir.Syntax.{w32}
 use mir.ValLaws.{toZ-ofZ}
 use borrow.Author.Needs.{needs}
-use Rattle.analog.specs.declared.Reading.the-variants.{Millivolts}
-use Rattle.analog.proofs.Voltages.{plain, plus-5, plus-12, negative, no-channel, answers-hold}
-use Rattle.analog.proofs.millivolts.Statement.{statement}
-use Rattle.analog.proofs.millivolts.Tie as tie
+use Rattle.voltages.specs.declared.Reading.the-variants.{Millivolts}
+use Rattle.voltages.proofs.Voltages.{plain, plus-5, plus-12, negative, no-channel, answers-hold}
+use Rattle.voltages.proofs.millivolts.Statement.{statement}
+use Rattle.voltages.proofs.millivolts.Tie as tie
 
 mul-quotient : tie.Need-mul-quotient
 mul-quotient c = search needs

@@ -9,12 +9,12 @@ use lib.Dec.{leb}
 use lib.IntN.{ℤ, pos, negℤ, _-ℤ_}
 use borrow.Author.Tests.{leb-true, le-leb, lt-leb, lt-ltb}
 use Rattle.bits.specs.Bits.{choose}
-use Rattle.analog.specs.declared.Reading.{Reading}
-use Rattle.analog.specs.declared.Reading.the-variants.{Millivolts, Refused}
-use Rattle.analog.specs.Readings.{nearestZ, reading, readingAnswer, isResistor, railOf, millivoltsOf, answerFor, Answers}
+use Rattle.voltages.specs.declared.Reading.{Reading}
+use Rattle.voltages.specs.declared.Reading.the-variants.{Millivolts, Refused}
+use Rattle.voltages.specs.Readings.{nearestZ, reading, readingAnswer, isResistor, railOf, millivoltsOf, answerFor, Answers}
 use Rattle.rounding.specs.Rounding.{nearest}
 use Rattle.rounding.proofs.Quotients.{nearest-le}
 use Rattle.analog.proofs.Signs.{minus-is, plus-is}
 
 -- the quotient by its magnitude
 pub below : (a b d : ℕ) → a < b → negℤ (pos (nearest (b - a) d)) ≡ nearestZ (pos a -ℤ pos b) d

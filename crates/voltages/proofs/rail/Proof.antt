@@ -8,10 +8,10 @@ use mir.ValLaws.{toZ-ofZ}
 use Prim.Native.Nat.{_≤_}
 use borrow.Author.Tests.{not-true, not-false}
 use borrow.Author.Needs.{needs}
-use Rattle.analog.specs.Readings.{isResistor}
-use Rattle.analog.proofs.Voltages.{resistor-range, rail-le, first-refused, second-refused, railed}
-use Rattle.analog.proofs.rail.Statement.{statement}
-use Rattle.analog.proofs.rail.Tie as tie
+use Rattle.voltages.specs.Readings.{isResistor}
+use Rattle.voltages.proofs.Voltages.{resistor-range, rail-le, first-refused, second-refused, railed}
+use Rattle.voltages.proofs.rail.Statement.{statement}
+use Rattle.voltages.proofs.rail.Tie as tie
 
 is-resistor-requires : tie.Need-is-resistor-requires
 is-resistor-requires c κs = search needs

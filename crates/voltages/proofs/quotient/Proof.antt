@@ -6,10 +6,10 @@ use lib.IntN.{pos, negℤ}
 use mir.Syntax.{w32}
 use mir.ValLaws.{toZ-pos}
 use borrow.Author.Needs.{needs}
 use Rattle.analog.proofs.Signs.{neg-fits, neg-back}
-use Rattle.analog.proofs.Voltages.{below, above, is-small}
-use Rattle.analog.proofs.quotient.Statement.{statement}
-use Rattle.analog.proofs.quotient.Tie as tie
+use Rattle.voltages.proofs.Voltages.{below, above, is-small}
+use Rattle.voltages.proofs.quotient.Statement.{statement}
+use Rattle.voltages.proofs.quotient.Tie as tie
 
 sub-rounded : tie.Need-sub-rounded
 sub-rounded c = search needs

@@ -1,8 +1,8 @@
 -- The two tests of the definition, the first decided.
 -- Assumes nothing.
-use Rattle.analog.proofs.Voltages.{no-resistor, some-resistor}
-use Rattle.analog.proofs.is_resistor.Statement.{statement}
-use Rattle.analog.proofs.is_resistor.Tie as tie
+use Rattle.voltages.proofs.Voltages.{no-resistor, some-resistor}
+use Rattle.voltages.proofs.is_resistor.Statement.{statement}
+use Rattle.voltages.proofs.is_resistor.Tie as tie
 
 returns : tie.Need-returns
 returns c = no-resistor _ (c .if1 .taken)

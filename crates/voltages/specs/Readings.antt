@@ -8,8 +8,8 @@ use lib.IntN.{ℤ, pos, negsuc, negℤ, _-ℤ_}
 use lib.ListN.{getD}
 use Rattle.bits.specs.Bits.{choose}
 use Rattle.rounding.specs.Rounding.{nearest}
-use Rattle.analog.specs.declared.Reading.{Reading}
-use Rattle.analog.specs.declared.Reading.the-variants.{Millivolts, Refused}
+use Rattle.voltages.specs.declared.Reading.{Reading}
+use Rattle.voltages.specs.declared.Reading.the-variants.{Millivolts, Refused}
 
 -- the number of the answer table
 abbrev pub readingAnswer : Reading → ℕ

@@ -59,9 +59,8 @@ pub fn name(bank: u8, index: u8) -> String {
     };
     let there_is = REGISTERS[cell].is_some();
     match (bank, index) {
-        (1 | 2, 0x50..=0x5F) if there_is => in_temperature(bank, TEMPERATURE[at(index, 0x50)]),
-        (1 | 2, 0x50..=0x5F) => in_temperature(bank, "no register"),
         _ if !there_is => "no register".into(),
+        (1 | 2, 0x50..=0x5F) => in_temperature(bank, TEMPERATURE[at(index, 0x50)]),
         (4, 0x50..=0x5F) => format!("real time status {}", index - 0x58),
         (_, 0x50..=0x5F) => BANK_0[at(index, 0x56)].into(),
         (_, 0x40..=0x4F) => CONTROL[at(index, 0x40)].into(),

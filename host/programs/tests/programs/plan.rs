@@ -34,7 +34,7 @@ impl Expected {
                 }
                 Number::Of(rpm) => expected.plan(rpm),
                 // Told as it was written.
-                Number::TooLarge => expected.tell_of(word, REFUSED),
+                Number::TooLarge => expected.tell_of(&[word, b" rpm"].concat(), REFUSED),
                 Number::None => expected.tell_of(
                     word,
                     "not a speed: write it as a whole number, in turns a minute",

@@ -26,7 +26,8 @@ use Rattle.alarm.proofs.Writes.{field-kept, cell-kept, within, field-agrees, ce
 use Rattle.samples.specs.declared.Sample.{Sample}
 use Rattle.w83782d_map.specs.Map.{cells, at, atBank, configuration, presentAt, bankAt, indexAt, interruptStatus1, interruptStatus2, writableAt, rows}
 use Rattle.w83782d_bus.specs.Bus.{State, state, writtenRegisters, Written, written, readRegisters, Read}
-use Rattle.w83782d_map.specs.Registers.{cellOf, bankOf, reachOf, storedBits, resetRegisters, writeAnswer}
+use Rattle.w83782d_map.specs.Access.{storedBits, writeAnswer}
+use Rattle.w83782d_registers.specs.Registers.{cellOf, bankOf, reachOf, resetRegisters}
 use Rattle.w83782d_latches.specs.Effects.{writtenLatches}
 use Rattle.w83782d_bus.specs.Bus as Bus
 use Rattle.w83782d_map.proofs.Cells.{answered-cell}

@@ -15,12 +15,12 @@ use w83782d_map::CONFIGURATION;
 use w83782d_map::INTERRUPT_STATUS_1;
 use w83782d_map::INTERRUPT_STATUS_2;
 use w83782d_map::answer_to_write;
-use w83782d_map::is_command;
 use w83782d_map::is_present;
-use w83782d_map::reach;
-use w83782d_map::restore;
-use w83782d_map::shown;
 use w83782d_map::stored_bits;
+use w83782d_registers::is_command;
+use w83782d_registers::reach;
+use w83782d_registers::restore;
+use w83782d_registers::shown;
 
 // What a write answers, with the latches after it.
 pub struct Wrote {

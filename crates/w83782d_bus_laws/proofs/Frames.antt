@@ -22,7 +22,8 @@ use Rattle.sensor.specs.Sensor.{armed, releasedOf}
 use Rattle.sensor.specs.declared.Remote.{Remote}
 use Rattle.w83782d_latches.specs.declared.Latches.{Latches}
 use Rattle.w83782d_map.specs.Map.{cells, presentAt, writableAt, powerOnAt, keptAt, rows, configuration, interruptStatus1, interruptStatus2, chassisClear, vidFanDivisor, deviceId, bankSelect, vendorId, chipId, realTimeStatus2, remoteValue}
-use Rattle.w83782d_map.specs.Registers.{cellOf, reachOf, writeAnswer, storedBits, isCommand, resetRegisters, withChassis, shownOf}
+use Rattle.w83782d_map.specs.Access.{writeAnswer, storedBits}
+use Rattle.w83782d_registers.specs.Registers.{cellOf, reachOf, isCommand, resetRegisters, withChassis, shownOf}
 use Rattle.w83782d_latches.specs.Effects.{writtenLatches, readLatches, withReleased, isInterrupt, releases, openedLatches}
 use Rattle.w83782d_bus.specs.Bus.{State, state, writtenRegisters, writeOf, readRegisters, readOf, Read, read}
 use Rattle.w83782d_map.proofs.Cells.{answered-cell, present-cell}

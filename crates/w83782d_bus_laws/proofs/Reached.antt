@@ -18,9 +18,11 @@ use Rattle.bits.specs.Map.{among}
 use Rattle.bits.proofs.BitLaws.{choose-ind}
 use Rattle.bits.proofs.Every.{every-at2, beq-same}
 use Rattle.w83782d_map.specs.Map.{cells, presentAt, writableAt, rows, bankSelect}
-use Rattle.w83782d_map.specs.Registers.{cellOf, bankOf, reachOf, writeAnswer, storedBits}
+use Rattle.w83782d_map.specs.Access.{writeAnswer, storedBits}
+use Rattle.w83782d_registers.specs.Registers.{cellOf, bankOf, reachOf}
 use Rattle.w83782d_bus.specs.Bus.{State, writtenRegisters, writeOf, Written, readOf, Read}
-use Rattle.w83782d_map.proofs.Cells.{present, present-rows, present-out, cell-alias, cell-any}
+use Rattle.w83782d_map.proofs.Cells.{present, present-rows, present-out}
+use Rattle.w83782d_registers.proofs.Cases.{cell-alias, cell-any}
 use Rattle.w83782d_bus_laws.specs.Claims.{answers1, Answers, Refused, Alias, Unbanked, BankSelected, AbsentBank, isAbsent}
 
 -- ---- answers

@@ -14,7 +14,8 @@ use Rattle.sensor.specs.Sensor.{armed}
 use Rattle.sensor.specs.declared.Remote.{Remote}
 use Rattle.sensor.specs.declared.Mark.the-variants.{Armed}
 use Rattle.w83782d_map.specs.Map.{cells, presentAt, writableAt, powerOnAt, keptAt, configuration, interruptStatus1, interruptStatus2, chassisClear, vidFanDivisor, deviceId, bankSelect, vendorId, chipId, realTimeStatus2}
-use Rattle.w83782d_map.specs.Registers.{bankOf, reachOf, storedBits, isCommand, shownOf}
+use Rattle.w83782d_map.specs.Access.{storedBits}
+use Rattle.w83782d_registers.specs.Registers.{bankOf, reachOf, isCommand, shownOf}
 use Rattle.w83782d_latches.specs.Effects.{latches, releases}
 use Rattle.w83782d_bus.specs.Bus.{State, state, writeOf, readOf}
 

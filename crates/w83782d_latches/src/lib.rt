@@ -12,7 +12,7 @@ use w83782d_map::BANK_1;
 use w83782d_map::BANK_2;
 use w83782d_map::CHASSIS_CLEAR;
 use w83782d_map::CONFIGURATION;
-use w83782d_map::is_command;
+use w83782d_registers::is_command;
 
 // 50h and 52h of the banks of sensors 2 and 3.
 const SENSOR_2_VALUE: usize = BANK_1;

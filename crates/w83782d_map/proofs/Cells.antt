@@ -1,4 +1,4 @@
--- The cells that the code reaches, and its sets of cells and values by their exceptions, are those of the rows.
+-- The code's sets of cells, and its values by their exceptions, are those of the rows.
 -- One computed test over all cells for the sets; the values by their arms. Assumes nothing.
 use mathlib.Core.Path.{_≡_, refl, ap, sym, _∙_}
 use mathlib.Core.Bool.{Bool, true, false, not, _&&_, _||_, and-false, Bool·beq}
@@ -12,56 +12,13 @@ use lib.Bits.{bitAnd}
 use lib.Dec.{T, eqb, eqb→eq, ltb, ltb→lt, leb}
 use lib.ListN.{getD}
 use Rattle.bits.specs.Bits.{choose, bit, isOn}
-use Rattle.bits.specs.Map.{Row, tabulate, writableBits}
+use Rattle.bits.specs.Map.{Row, rowSays}
 use Rattle.bits.proofs.Every.{both, both-left, both-right, every-at, beq-same}
 use Rattle.bits.proofs.ChangeLaws.{and-left}
 use Rattle.bits.proofs.Match.{NoKey, or-either, last-arm}
 use Rattle.w83782d_map.specs.Map.{cells, rows, keptByReset, presentAt, writableAt, powerOnAt, keptAt, configuration, chassisClear, bankSelect}
-use Rattle.w83782d_map.specs.Registers.{cellOf, reachOf, writeAnswer, storedBits}
+use Rattle.w83782d_map.specs.Access.{writeAnswer, storedBits}
 use Rattle.w83782d_map.specs.Parts.{inSet}
-
--- ---- the cell of an index
-pub reached : (rs : List ℕ) (i s c : ℕ) → s ≡ getD rs bankSelect 0 → c ≡ cellOf (bitAnd s 7) i → c ≡ reachOf rs i
-reached rs i s c e f = f ∙ ap (λ (x : ℕ). cellOf (bitAnd x 7) i) e
-
-module _ (b i : ℕ) where
-  pub cell-below : i < 0x20 → 112 ≡ cellOf b i
-  unfolding cellOf
-  cell-below h = simp (lt-ltb i 0x20 h)
-
-  pub cell-above : 0x20 ≤ i → 0x7F < i → 112 ≡ cellOf b i
-  unfolding cellOf
-  cell-above h k = simp (le-ltb i 0x20 h, lt-ltb 0x7F i k)
-
-  pub cell-alias : 0x20 ≤ i → i ≤ 0x7F → 0x60 ≤ i → i - 0x60 ≡ cellOf b i
-  unfolding cellOf
-  cell-alias h k a = simp (le-ltb i 0x20 h, le-ltb 0x7F i k, le-leb 0x60 i a) (omega arith)
-
-  pub cell-any : 0x20 ≤ i → i ≤ 0x7F → i < 0x60 → i < 0x50 → i - 0x20 ≡ cellOf b i
-  unfolding cellOf
-  cell-any h k a l = simp (le-ltb i 0x20 h, le-ltb 0x7F i k, lt-leb 0x60 i a, lt-ltb i 0x50 l)
-
-  module _ (h : 0x20 ≤ i) (k : i ≤ 0x7F) (a : i < 0x60) (l : 0x50 ≤ i) where
-    pub cell-bank-0 : b ≡ 0 → i - 0x20 ≡ cellOf b i
-    unfolding cellOf
-    cell-bank-0 e = simp (le-ltb i 0x20 h, le-ltb 0x7F i k, lt-leb 0x60 i a, le-ltb i 0x50 l, e)
-
-    pub cell-bank-1 : b ≡ 1 → i - 0x10 ≡ cellOf b i
-    unfolding cellOf
-    cell-bank-1 e = simp (le-ltb i 0x20 h, le-ltb 0x7F i k, lt-leb 0x60 i a, le-ltb i 0x50 l, e) (omega arith)
-
-    pub cell-bank-2 : b ≡ 2 → i ≡ cellOf b i
-    unfolding cellOf
-    cell-bank-2 e = simp (le-ltb i 0x20 h, le-ltb 0x7F i k, lt-leb 0x60 i a, le-ltb i 0x50 l, e) (omega arith)
-
-    pub cell-bank-4 : b ≡ 4 → i + 0x10 ≡ cellOf b i
-    unfolding cellOf
-    cell-bank-4 e = simp (le-ltb i 0x20 h, le-ltb 0x7F i k, lt-leb 0x60 i a, le-ltb i 0x50 l, e) (omega arith)
-
-    pub cell-bank-none : (b ≡ 0 → ⊥) → (b ≡ 1 → ⊥) → (b ≡ 2 → ⊥) → (b ≡ 4 → ⊥) → 112 ≡ cellOf b i
-    unfolding cellOf
-    cell-bank-none n0 n1 n2 n4 =
-        simp (le-ltb i 0x20 h, le-ltb 0x7F i k, lt-leb 0x60 i a, le-ltb i 0x50 l, ne-eqb b 0 n0, ne-eqb b 1 n1, ne-eqb b 2 n2, ne-eqb b 4 n4)
 
 -- ---- sets of cells
 abbrev pub present : ℕ → Bool
@@ -70,7 +27,7 @@ present = inSet 0xffc0_ffdf_3fff_ffff 0x0600_007f_007f
 abbrev pub unwritable : ℕ → Bool
 unwritable = inSet 0x0100_8206_0000_07ff 0x0600_0003_0003
 
-abbrev pub kept : ℕ → Bool
+abbrev kept : ℕ → Bool
 kept = inSet 0x0000_0100_0000_07ff 0x0000_0003_0003
 
 abbrev presentSame : ℕ → Bool
@@ -100,7 +57,7 @@ module _ (c : ℕ) (h : c < cells) where
       beq-same (unwritable c) (presentAt c && eqb (writableAt c) 0)
       (both-left (unwritableSame c) (keptSame c) (both-right (presentSame c) (both (unwritableSame c) (keptSame c)) as-rows))
 
-  pub kept-rows : kept c ≡ keptAt c
+  kept-rows : kept c ≡ keptAt c
   unfolding asRows
   kept-rows =
       beq-same (kept c) (keptAt c) (both-right (unwritableSame c) (keptSame c) (both-right (presentSame c) (both (unwritableSame c) (keptSame c)) as-rows))
@@ -118,6 +75,21 @@ present-out c h = simp (le-ltb c cells h)
 
 pub present-in : (c : ℕ) (r : Bool) → c < cells → r ≡ present c → r ≡ presentAt c
 present-in c r h e = e ∙ present-rows c h
+
+pub kept-out : (c : ℕ) → cells ≤ c → false ≡ keptAt c
+unfolding keptAt keptByReset
+kept-out c h =
+    simp (
+      le-ltb c 64 (omega arith),
+      le-ltb c 80 (omega arith),
+      le-ltb c 96 (omega arith),
+      lt-leb (0x50 + (c - 96)) 0x48 (omega arith),
+      lt-leb (0x50 + (c - 96)) 0x2A (omega arith),
+      and-false,
+    )
+
+pub kept-in : (c : ℕ) (r : Bool) → c < cells → r ≡ kept c → r ≡ keptAt c
+kept-in c r h e = e ∙ kept-rows c h
 
 pub answer-out : (c : ℕ) → cells ≤ c → 1 ≡ writeAnswer c
 unfolding writeAnswer
@@ -162,13 +134,13 @@ belowAlias : List Row → Bool
 belowAlias [] = true
 belowAlias (r ∷ rs) = both (ltb (r .span .last) 0x60) (belowAlias rs)
 
-no-row : (b i : ℕ) (rs : List Row) → T (belowAlias rs) → 0x60 ≤ i → writableBits rs b i ≡ 0
+no-row : (f : Row → ℕ) (b i : ℕ) (rs : List Row) → T (belowAlias rs) → 0x60 ≤ i → rowSays f 0 rs b i ≡ 0
 unfolding belowAlias
-no-row b i [] t h = refl
-no-row b i (r ∷ rs) t h =
+no-row f b i [] t h = refl
+no-row f b i (r ∷ rs) t h =
     let l : r .span .last < 0x60 = ltb→lt (r .span .last) 0x60 (both-left (ltb (r .span .last) 0x60) (belowAlias rs) t) in
     let n : leb i (r .span .last) ≡ false = lt-leb i (r .span .last) (omega arith) in
-    simp (n, and-false, no-row b i rs (both-right (ltb (r .span .last) 0x60) (belowAlias rs) t) h)
+    simp (n, and-false, no-row f b i rs (both-right (ltb (r .span .last) 0x60) (belowAlias rs) t) h)
 
 stored-in : (c : ℕ) → c < cells → NoKey storedKeys c → 0x00 ≡ storedBits c
 unfolding writableAt rows
@@ -184,7 +156,7 @@ stored-out c h =
       ne-eqb c configuration (λ e. omega arith),
       ne-eqb c chassisClear (λ e. omega arith),
     )
-    (sym (no-row 4 (0x50 + (c - 96)) rows tt (omega arith)))
+    (sym (no-row (λ r. r .writable) 4 (0x50 + (c - 96)) rows tt (omega arith)))
 
 pub stored-rest : (c : ℕ) → NoKey storedKeys c → 0x00 ≡ storedBits c
 stored-rest c n = go (decLt c cells)
@@ -218,6 +190,19 @@ powerKeys =
     (69 ∷ 85 ∷ []) ∷ (67 ∷ 83 ∷ []) ∷ (60 ∷ []) ∷ (58 ∷ 63 ∷ []) ∷ (59 ∷ 62 ∷ []) ∷ (57 ∷ []) ∷ (56 ∷ []) ∷ (46 ∷ 55 ∷ []) ∷ (45 ∷ []) ∷ (43 ∷ []) ∷ (41 ∷ []) ∷ (40 ∷ [])
     ∷ (39 ∷ []) ∷ (32 ∷ 42 ∷ 44 ∷ []) ∷ []
 
-pub power-rest : (c : ℕ) → c < cells → NoKey powerKeys c → 0 ≡ powerOnAt c
+power-in : (c : ℕ) → c < cells → NoKey powerKeys c → 0 ≡ powerOnAt c
 unfolding powerOnAt rows
-power-rest c h n = last-arm powerOnAt 0 powerKeys cells tt c h n
+power-in c h n = last-arm powerOnAt 0 powerKeys cells tt c h n
+
+power-out : (c : ℕ) → cells ≤ c → 0 ≡ powerOnAt c
+unfolding powerOnAt rows belowAlias
+power-out c h =
+    simp (le-ltb c 64 (omega arith), le-ltb c 80 (omega arith), le-ltb c 96 (omega arith))
+    (sym (no-row (λ r. r .powerOn) 4 (0x50 + (c - 96)) rows tt (omega arith)))
+
+pub power-rest : (c : ℕ) → NoKey powerKeys c → 0 ≡ powerOnAt c
+power-rest c n = go (decLt c cells)
+  where
+    go : Dec (c < cells) → 0 ≡ powerOnAt c
+    go (yes h) = power-in c h n
+    go (no k) = power-out c (omega arith)

@@ -1,3 +1,3 @@
 pub mod Map
-pub mod Registers
+pub mod Access
 pub mod Parts

@@ -4,6 +4,7 @@ use mathlib.Core.Bool.{Bool, true, false, _&&_}
 use mathlib.Core.List.{List, [], _∷_}
 use Prim.Native.Nat.{ℕ, _+_, _-_}
 use lib.Dec.{ltb, leb, eqb}
+use lib.ListN.{length}
 use Rattle.bits.specs.Bits.{choose}
 use Rattle.bits.specs.Map.{Bank, any, bank, Span, span, Row, row, among, isPresent, writableBits, powerOnValue}
 
@@ -98,6 +99,10 @@ keptByReset =
 -- ---- cells: one for each register, bank 0 20h-5Fh, then banks 1, 2 and 4 from 50h up
 abbrev pub cells : ℕ
 cells = 112
+
+-- the registers' slice has 112 cells
+abbrev pub fits : List ℕ → Bool
+fits rs = eqb (length rs) cells
 
 -- the cell of an index, 20h to 4Fh in any bank or 50h to 5Fh in bank 0
 abbrev pub at : ℕ → ℕ

@@ -1,26 +1,9 @@
--- What the parts of the code ensure, in the words of Map.antt and Registers.antt.
-use mathlib.Core.Bool.{Bool, true, false}
-use mathlib.Core.List.{List}
+-- What the parts of the code ensure, in the words of Map.antt.
+use mathlib.Core.Bool.{Bool}
 use Prim.Native.Nat.{ℕ, _-_}
 use lib.Dec.{ltb}
-use lib.ListN.{getD}
 use Rattle.bits.specs.Bits.{choose, isOn}
-use Rattle.bits.specs.Map.{tabulate}
-use Rattle.w83782d_map.specs.Map.{cells, powerOnAt, keptAt}
-use Rattle.w83782d_map.specs.Registers.{fits}
 
 -- a cell's bit in two words
 abbrev pub inSet : ℕ → ℕ → ℕ → Bool
 inSet set banked c = choose (ltb c 64) (isOn set c) (isOn banked (c - 64))
-
--- power-on and reset by one loop: a reset keeps some cells
-abbrev pub restoredByte : Bool → ℕ → ℕ → ℕ
-restoredByte true c old = choose (keptAt c) old (powerOnAt c)
-restoredByte false c old = powerOnAt c
-
-unfoldable pub restoredRegisters : Bool → List ℕ → List ℕ
-restoredRegisters keep rs = tabulate cells 0 (λ c. restoredByte keep c (getD rs c 0))
-
--- and a slice of another length stays
-abbrev pub restoredIn : Bool → List ℕ → List ℕ
-restoredIn keep rs = choose (fits rs) (restoredRegisters keep rs) rs

@@ -1,16 +1,10 @@
-// The register map of the W83782D: named cells, sets of cells and values by cell, and what is made of them: the cell that an
-// access reaches, the answer to a write, the bits it stores, power-on and reset of every cell, the byte that a read shows.
+// The register map of the W83782D: named cells, sets of cells and values by cell, and what the rows say of a cell: whether it is
+// a register, the answer to a write, the bits it stores, its power-on value, whether a reset keeps it.
 ghost use mathlib.Core.Path.{_≡_};
-ghost use mathlib.Core.Bool.{_&&_};
 ghost use Prim.Native.Nat.{_<_};
-ghost use lib.Dec.{eqb};
-ghost use lib.ListN.{length, getD};
-ghost use Rattle.bits.specs.Bits.{isOn};
-ghost use Rattle.w83782d_map.specs.Map.{cells, presentAt, powerOnAt};
-ghost use Rattle.w83782d_map.specs.Registers.{cellOf, reachOf, writeAnswer, storedBits, withChassis, vendorByte, shownOf};
-ghost use Rattle.w83782d_map.specs.Parts.{inSet, restoredByte, restoredRegisters, restoredIn};
-use bits::Bit;
-use bits::is_on;
+ghost use Rattle.w83782d_map.specs.Map.{cells, presentAt, powerOnAt, keptAt};
+ghost use Rattle.w83782d_map.specs.Access.{writeAnswer, storedBits};
+ghost use Rattle.w83782d_map.specs.Parts.{inSet};
 
 // ---- Answer numbers
 
@@ -74,11 +68,11 @@ const SMI_MASK_2: usize = 0x44 - 0x20;
 
 pub const CHASSIS_CLEAR: usize = 0x46 - 0x20;
 
-const VID_FAN_DIVISOR: usize = 0x47 - 0x20;
+pub const VID_FAN_DIVISOR: usize = 0x47 - 0x20;
 
 const BUS_ADDRESS: usize = 0x48 - 0x20;
 
-const DEVICE_ID: usize = 0x49 - 0x20;
+pub const DEVICE_ID: usize = 0x49 - 0x20;
 
 const REMOTE_ADDRESS: usize = 0x4a - 0x20;
 
@@ -88,15 +82,15 @@ const IRQ_OVT: usize = 0x4c - 0x20;
 
 const GPO_CONTROL: usize = 0x4d - 0x20;
 
-const BANK_SELECT: usize = 0x4e - 0x20;
+pub const BANK_SELECT: usize = 0x4e - 0x20;
 
-const VENDOR_ID: usize = 0x4f - 0x20;
+pub const VENDOR_ID: usize = 0x4f - 0x20;
 
 const BEEP_CONTROL_1: usize = 0x56 - 0x20;
 
 const BEEP_CONTROL_2: usize = 0x57 - 0x20;
 
-const CHIP_ID: usize = 0x58 - 0x20;
+pub const CHIP_ID: usize = 0x58 - 0x20;
 
 const DIODE_SELECTION: usize = 0x59 - 0x20;
 
@@ -138,7 +132,7 @@ const SENSOR_3_OVER_LOW: usize = BANK_2 + 6;
 
 const BANK_4: usize = 96;
 
-const REAL_TIME_STATUS_2: usize = BANK_4 + 0xa;
+pub const REAL_TIME_STATUS_2: usize = BANK_4 + 0xa;
 
 // Sets of cells, a bit for each: from the right 20h-2Fh, 30h-3Fh, 40h-4Fh, 50h-5Fh of bank 0; then, in the
 // second word, 50h-5Fh of banks 1, 2 and 4.
@@ -163,39 +157,6 @@ fn has(set: u64, banked: u64, cell: usize) -> bool
         return (set >> cell) % 2 == 1;
     }
     (banked >> (cell - 64)) % 2 == 1
-}
-
-// The cell of an index in a bank; CELLS where there is none.
-fn cell_of(index: u8, bank: u8) -> usize
-    ensures { λ r. ⌜ r ≡ cellOf bank index ⌝ }
-{
-    let i = index as usize;
-    if i < 0x20 {
-        return CELLS;
-    }
-    if 0x7f < i {
-        return CELLS;
-    }
-    if 0x60 <= i {
-        return i - 0x60;
-    }
-    if i < 0x50 {
-        return i - 0x20;
-    }
-    match bank {
-        0 => i - 0x20,
-        1 => i - 0x10,
-        2 => i,
-        4 => i + 0x10,
-        _ => CELLS,
-    }
-}
-
-// The cell that an access at an index reaches; CELLS where there is none.
-pub fn reach(s: &[u8], index: u8) -> usize
-    ensures { λ r. ⌜ r ≡ reachOf (now (s .entry)) index ⌝ }
-{
-    cell_of(index, bits::cell(s, BANK_SELECT) & 0b0000_0111)
 }
 
 // Whether a number is the cell of a register.
@@ -258,9 +219,8 @@ pub fn stored_bits(cell: usize) -> u8
     }
 }
 
-// The power-on value of a cell.
-fn power_on_byte(cell: usize) -> u8
-    requires { ⌜ cell < cells ⌝ }
+// The power-on value of a cell; 0 where there is none.
+pub fn power_on_byte(cell: usize) -> u8
     ensures { λ r. ⌜ r ≡ powerOnAt cell ⌝ }
 {
     match cell {
@@ -282,83 +242,12 @@ fn power_on_byte(cell: usize) -> u8
     }
 }
 
-// ---- Power-on and reset
-
-// What a cell gets: its power-on value, unless it is to be kept and a reset keeps it.
-fn restored(cell: usize, old: u8, keep: bool) -> u8
-    requires { ⌜ cell < cells ⌝ }
-    ensures { λ r. ⌜ r ≡ restoredByte keep cell old ⌝ }
+// Whether a reset keeps a cell.
+pub fn is_kept_by_reset(cell: usize) -> bool
+    ensures { λ r. ⌜ r ≡ keptAt cell ⌝ }
 {
-    if !keep {
-        return power_on_byte(cell);
-    }
-    if has(KEPT_BY_RESET, KEPT_BY_RESET_BANKED, cell) {
-        return old;
-    }
-    power_on_byte(cell)
-}
-
-// Power-on of every cell, or a reset, which keeps some. A slice that is not of 112 cells stays.
-pub fn restore(s: &mut [u8], keep: bool)
-    ensures { λ r. ⌜ now (s .exit) ≡ restoredIn keep (now (s .entry)) ⌝ }
-{
-    if s.len() != CELLS {
-        return;
-    }
-    let mut cell = 0;
-    while cell < CELLS {
-        s[cell] = restored(cell, s[cell], keep);
-        cell += 1;
-    }
-}
-
-// ---- Commands
-
-// Whether a write is the command of a cell: bit 7 of 40h resets, of 46h clears the chassis latch.
-pub fn is_command(of: usize, cell: usize, value: u8) -> bool
-    ensures { λ r. ⌜ r ≡ (eqb cell of && isOn value 7) ⌝ }
-{
-    if cell != of {
+    if CELLS <= cell {
         return false;
     }
-    is_on(value, Bit::B7)
-}
-
-// ---- What a read shows
-
-// A byte of 42h or 5Ah as a read shows it: bits 5, 3-0 of the cell, and the latch as bit 4.
-pub fn with_chassis(byte: u8, chassis: bool) -> u8
-    ensures { λ r. ⌜ r ≡ withChassis byte chassis ⌝ }
-{
-    let rest = byte & 0b0010_1111;
-    if chassis {
-        return rest | 0b0001_0000;
-    }
-    rest | 0
-}
-
-fn vendor_byte(select: u8) -> u8
-    ensures { λ r. ⌜ r ≡ vendorByte select ⌝ }
-{
-    if is_on(select, Bit::B7) {
-        return 0x5c;
-    }
-    0xa3
-}
-
-// The byte that a read of a cell shows.
-pub fn shown(s: &[u8], chassis: bool, cell: usize) -> u8
-    ensures { λ r. ⌜ r ≡ shownOf (now (s .entry)) chassis cell ⌝ }
-{
-    let byte = bits::cell(s, cell);
-    match cell {
-        CONFIGURATION => byte & 0b0111_1111,
-        INTERRUPT_STATUS_2 | REAL_TIME_STATUS_2 => with_chassis(byte, chassis),
-        CHASSIS_CLEAR => 0x00,
-        VID_FAN_DIVISOR => byte & 0b1111_0000,
-        DEVICE_ID => 0x02,
-        VENDOR_ID => vendor_byte(bits::cell(s, BANK_SELECT)),
-        CHIP_ID => 0x30,
-        _ => byte,
-    }
+    has(KEPT_BY_RESET, KEPT_BY_RESET_BANKED, cell)
 }

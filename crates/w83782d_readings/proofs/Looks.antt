@@ -26,7 +26,7 @@ use Rattle.analog.specs.Temperature.{TwosComplement}
 use Rattle.analog.specs.Pwm.{pwmParts}
 use Rattle.voltages.specs.declared.Reading.{Reading}
 use Rattle.w83782d_map.specs.Map.{configuration, interruptStatus1, interruptStatus2}
-use Rattle.w83782d_map.specs.Registers.{withChassis}
+use Rattle.w83782d_registers.specs.Registers.{withChassis}
 use Rattle.w83782d_store.specs.Stored.{fanCount, divisorPlaces}
 use Rattle.w83782d_readings.specs.declared.Temperature.the-variants as temperature
 use Rattle.w83782d_readings.specs.declared.Duty.the-variants as duty

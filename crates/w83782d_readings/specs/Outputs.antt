@@ -8,7 +8,7 @@ use lib.Dec.{eqb}
 use lib.ListN.{getD}
 use Rattle.bits.specs.Bits.{isOn}
 use Rattle.w83782d_map.specs.Map.{at, configuration, interruptStatus1, interruptStatus2}
-use Rattle.w83782d_map.specs.Registers.{withChassis}
+use Rattle.w83782d_registers.specs.Registers.{withChassis}
 
 abbrev pub smiMask1 : ℕ
 smiMask1 = at 0x43

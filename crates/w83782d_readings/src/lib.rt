@@ -14,7 +14,7 @@ use fan::Divisor;
 use fan::Speed;
 use voltages::Reading;
 use voltages::millivolts;
-use w83782d_map::with_chassis;
+use w83782d_registers::with_chassis;
 use w83782d_store::divisor_field;
 
 const SENSOR_1: usize = 0x27 - 0x20;

@@ -16,7 +16,8 @@ use Rattle.bits.specs.Bits.{bit, isOn, choose, mergeOf, changes}
 use Rattle.bits.proofs.BitLaws.{bit-lt, bit-none, bit-on, bit-off, and-bit, or-bit}
 use Rattle.bits.proofs.Every.{every-at, same-below2, same-tests, both, both-left, both-right}
 use Rattle.w83782d_map.specs.Map.{presentAt, writableAt, rows, configuration, interruptStatus1, interruptStatus2}
-use Rattle.w83782d_map.specs.Registers.{cellOf, writeAnswer, storedBits, shownOf}
+use Rattle.w83782d_map.specs.Access.{writeAnswer, storedBits}
+use Rattle.w83782d_registers.specs.Registers.{cellOf, shownOf}
 use Rattle.w83782d_latches.specs.Effects.{writtenLatches}
 use Rattle.w83782d_bus.specs.Bus.{State, state, Written, written, writtenRegisters, writeOf}
 use Rattle.w83782d_readings.specs.Outputs.{smiMask1, smiMask2, status1, status2, unmasked, smiOf}

@@ -18,7 +18,7 @@ use Rattle.sensor.specs.declared.Status.{Status}
 use Rattle.sensor.specs.declared.Output.{Output}
 use Rattle.samples.specs.declared.Sample.{Sample}
 use Rattle.w83782d_map.specs.Map.{cells, at, bankAt, indexAt, configuration, interruptStatus1, interruptStatus2, realTimeStatus2}
-use Rattle.w83782d_map.specs.Registers.{shownOf}
+use Rattle.w83782d_registers.specs.Registers.{shownOf}
 use Rattle.w83782d_bus.specs.Bus.{State, Written, writeOf}
 use Rattle.w83782d_store.specs.Stored.{voltage, fanCount, sensor1Value, bankCell, voltageOf, halvesOf, countOf, isStopped}
 use Rattle.w83782d_sample.specs.Sample.{Source, firstByte, secondByte, highLimit, lowLimit, fanLimit, sensor1Over, sensor1Hysteresis, ovtProperty, realTimeStatus1, statusMode, outputMode, markOf, remoteOf, sampleOf}

@@ -7,8 +7,7 @@ use Rattle.bits.specs.declared.Bit.{Bit}
 use Rattle.fields.specs.declared.Field.{Field}
 use Rattle.analog.specs.Temperature.{half8, codeOf, halfCodeOf, halfHigh, halfLow}
 use Rattle.samples.specs.declared.Sample.{Sample}
-use Rattle.w83782d_map.specs.Map.{at}
-use Rattle.w83782d_map.specs.Registers.{fits}
+use Rattle.w83782d_map.specs.Map.{at, fits}
 use Rattle.w83782d_store.specs.Stored.{place, sensor1Value, voltage, voltageOf, fanCount, countOf, rails, fans, puts, _≔_, storedReadings}
 
 -- a divisor's field: two bits in one cell, the top one in 5Dh

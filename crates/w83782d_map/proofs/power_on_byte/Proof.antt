@@ -62,7 +62,7 @@ unfolding powerOnAt rows
 returns-14 c = arm powerOnAt 0x50 (69 ∷ 85 ∷ []) tt _ (c .match .keys14)
 
 returns-15 : tie.Need-returns-15
-returns-15 c = power-rest _ (c .before .pre) (c .match .rest)
+returns-15 c = power-rest _ (c .match .rest)
 
 pub power-on-byte-spec : {M : Type 1} → statement M
 power-on-byte-spec =

@@ -1,7 +1,7 @@
 use mathlib.Core.List.{[], _∷_}
 use Rattle.bits.proofs.Match.{arm}
 use Rattle.w83782d_map.specs.Map.{writableAt, rows}
-use Rattle.w83782d_map.specs.Registers.{storedBits}
+use Rattle.w83782d_map.specs.Access.{storedBits}
 use Rattle.w83782d_map.proofs.Cells.{stored-rest}
 use Rattle.w83782d_map.proofs.stored_bits.Statement.{statement}
 use Rattle.w83782d_map.proofs.stored_bits.Tie as tie

@@ -1,7 +1,7 @@
 use borrow.Author.Needs.{needs}
-use Rattle.w83782d_map.proofs.Cases.{chassis-on, chassis-off}
-use Rattle.w83782d_map.proofs.with_chassis.Statement.{statement}
-use Rattle.w83782d_map.proofs.with_chassis.Tie as tie
+use Rattle.w83782d_registers.proofs.Cases.{chassis-on, chassis-off}
+use Rattle.w83782d_registers.proofs.with_chassis.Statement.{statement}
+use Rattle.w83782d_registers.proofs.with_chassis.Tie as tie
 
 returns : tie.Need-returns
 returns c = search (needs, chassis-on)

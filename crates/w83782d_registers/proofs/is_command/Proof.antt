@@ -1,7 +1,7 @@
 use borrow.Author.Needs.{needs}
-use Rattle.w83782d_map.proofs.Cases.{other-cell, own-cell}
-use Rattle.w83782d_map.proofs.is_command.Statement.{statement}
-use Rattle.w83782d_map.proofs.is_command.Tie as tie
+use Rattle.w83782d_registers.proofs.Cases.{other-cell, own-cell}
+use Rattle.w83782d_registers.proofs.is_command.Statement.{statement}
+use Rattle.w83782d_registers.proofs.is_command.Tie as tie
 
 returns : tie.Need-returns
 returns c = search (needs, other-cell)

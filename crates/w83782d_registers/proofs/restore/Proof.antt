@@ -5,11 +5,11 @@ use native.Mathlib.Omega.{arith}
 use native.Mathlib.Numerals.{add-one}
 use lib.ListN.{length, length-set}
 use Rattle.bits.proofs.Tables.{over, over-none, over-all}
 use Rattle.w83782d_map.specs.Map.{cells}
-use Rattle.w83782d_map.specs.Parts.{restoredRegisters}
-use Rattle.w83782d_map.proofs.Cases.{restore-next, restored-length, restored-short, restored-in}
-use Rattle.w83782d_map.proofs.restore.Statement.{statement}
-use Rattle.w83782d_map.proofs.restore.Tie as tie
+use Rattle.w83782d_registers.specs.Parts.{restoredRegisters}
+use Rattle.w83782d_registers.proofs.Cases.{restore-next, restored-length, restored-short, restored-in}
+use Rattle.w83782d_registers.proofs.restore.Statement.{statement}
+use Rattle.w83782d_registers.proofs.restore.Tie as tie
 
 abbrev Inv-loop : tie.InvT-loop
 Inv-loop s₀ keep cell₀ s cell = (cell ≤ cells) × (length s ≡ cells) × (s ≡ over (restoredRegisters keep s₀) s₀ cell)

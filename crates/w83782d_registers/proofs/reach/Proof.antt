@@ -1,7 +1,7 @@
 use borrow.Author.Needs.{needs}
-use Rattle.w83782d_map.proofs.Cells.{reached}
-use Rattle.w83782d_map.proofs.reach.Statement.{statement}
-use Rattle.w83782d_map.proofs.reach.Tie as tie
+use Rattle.w83782d_registers.proofs.Cases.{reached}
+use Rattle.w83782d_registers.proofs.reach.Statement.{statement}
+use Rattle.w83782d_registers.proofs.reach.Tie as tie
 
 cell-requires : tie.Need-cell-requires
 cell-requires c κs = search needs

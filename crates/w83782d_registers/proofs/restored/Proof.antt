@@ -1,7 +1,7 @@
 use borrow.Author.Needs.{needs}
-use Rattle.w83782d_map.proofs.Cases.{restored-all, restored-kept, restored-other}
-use Rattle.w83782d_map.proofs.restored.Statement.{statement}
-use Rattle.w83782d_map.proofs.restored.Tie as tie
+use Rattle.w83782d_registers.proofs.Cases.{restored-all, restored-kept, restored-other}
+use Rattle.w83782d_registers.proofs.restored.Statement.{statement}
+use Rattle.w83782d_registers.proofs.restored.Tie as tie
 
 power-on-byte-requires : tie.Need-power-on-byte-requires
 power-on-byte-requires c κs = search needs
@@ -9,8 +9,8 @@ power-on-byte-requires c κs = search needs
 returns : tie.Need-returns
 returns c = search (needs, restored-all)
 
-has-requires : tie.Need-has-requires
-has-requires c κs = search needs
+is-kept-by-reset-requires : tie.Need-is-kept-by-reset-requires
+is-kept-by-reset-requires c κs = search needs
 
 returns-2 : tie.Need-returns-2
 returns-2 c = search (needs, restored-kept)
@@ -27,7 +27,7 @@ restored-spec =
     (tie.spec
     power-on-byte-requires
     returns
-    has-requires
+    is-kept-by-reset-requires
     returns-2
     power-on-byte-requires-2
     returns-3)

@@ -1,17 +1,14 @@
--- What an access reaches, answers, stores and shows, and what power-on and reset give every cell (document 01, "Register map").
+-- Which register an access reaches, what power-on and reset give every cell, commands, and what a read shows (document 01,
+-- "Register map").
 use mathlib.Core.Bool.{Bool, _&&_, _||_}
 use mathlib.Core.List.{List}
 use Prim.Native.Nat.{ℕ, _-_}
 use lib.Bits.{bitAnd, bitOr}
 use lib.Dec.{ltb, leb, eqb}
-use lib.ListN.{length, getD}
+use lib.ListN.{getD}
 use Rattle.bits.specs.Bits.{choose, isOn}
 use Rattle.bits.specs.Map.{tabulate}
-use Rattle.w83782d_map.specs.Map.{cells, at, atBank, presentAt, writableAt, powerOnAt, keptAt, configuration, interruptStatus2, chassisClear, vidFanDivisor, deviceId, bankSelect, vendorId, chipId, realTimeStatus2}
-
--- the registers' slice has 112 cells
-abbrev pub fits : List ℕ → Bool
-fits rs = eqb (length rs) cells
+use Rattle.w83782d_map.specs.Map.{cells, at, atBank, powerOnAt, keptAt, configuration, interruptStatus2, chassisClear, vidFanDivisor, deviceId, bankSelect, vendorId, chipId, realTimeStatus2}
 
 -- ---- which register an access reaches
 
@@ -31,15 +28,6 @@ cellOf b i =
 abbrev pub reachOf : List ℕ → ℕ → ℕ
 reachOf rs i = cellOf (bankOf rs) i
 
--- ---- answers: 1 before 2
-
--- 1: "index below 20h or above 7Fh, reserved index, or absent bank"; 2: "write to a read-only register"
-unfoldable pub writeAnswer : ℕ → ℕ
-writeAnswer c = choose (presentAt c) (choose (eqb (writableAt c) 0) 2 0) 1
-
-unfoldable pub readAnswer : ℕ → ℕ
-readAnswer c = choose (presentAt c) 0 1
-
 -- ---- power-on and reset of the registers
 
 unfoldable pub powerOnRegisters : List ℕ
@@ -49,14 +37,11 @@ powerOnRegisters = tabulate cells 0 powerOnAt
 unfoldable pub resetRegisters : List ℕ → List ℕ
 resetRegisters rs = tabulate cells 0 (λ c. choose (keptAt c) (getD rs c 0) (powerOnAt c))
 
--- ---- commands, and the bits that a write stores
+-- ---- commands
 
--- bit 7 of 40h and of 46h is a command: it is never stored
+-- bit 7 of 40h and of 46h is a command
 abbrev pub isCommand : ℕ → ℕ → Bool
 isCommand c v = (eqb c configuration || eqb c chassisClear) && isOn v 7
-
-abbrev pub storedBits : ℕ → ℕ
-storedBits c = choose (eqb c configuration || eqb c chassisClear) (bitAnd (writableAt c) 0b0111_1111) (writableAt c)
 
 -- ---- what a read shows
 

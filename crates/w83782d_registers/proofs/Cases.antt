@@ -1,12 +1,12 @@
 -- The definitions of Registers.antt and Parts.antt by their cases, over plain variables: what each branch of the code knows gives
 -- what it ensures. Assumes nothing.
-use mathlib.Core.Path.{_≡_, refl, ap, sym, _∙_}
+use mathlib.Core.Path.{_≡_, ap, sym, _∙_}
 use mathlib.Core.Bool.{Bool, true, false, not, _&&_, true≢false, false≢true}
 use mathlib.Core.List.{List, [], _∷_}
-use mathlib.Core.Logic.{_⊎_, inl, inr, ⊎-elim}
-use Prim.Native.Nat.{ℕ, suc, _<_, _≤_}
+use mathlib.Core.Logic.{inl, inr, ⊎-elim}
+use Prim.Native.Nat.{ℕ, suc, _+_, _-_, _<_, _≤_}
 use native.Mathlib.Omega.{arith}
-use borrow.Author.Tests.{eq-eqb, ne-eqb}
+use borrow.Author.Tests.{eq-eqb, ne-eqb, lt-ltb, le-ltb, le-leb, lt-leb}
 use lib.Bits.{bitAnd, bitOr}
 use lib.Dec.{eqb}
 use lib.ListN.{length, getD, set}
@@ -14,23 +14,65 @@ use Rattle.bits.specs.Bits.{isOn}
 use types.Run.{OneOf}
 use Rattle.bits.proofs.Match.{NoKey}
 use Rattle.bits.proofs.Tables.{tabulate-length, tabulate-at, over, over-next, over-at}
-use Rattle.w83782d_map.specs.Map.{cells, powerOnAt, configuration, interruptStatus2, chassisClear, vidFanDivisor, deviceId, bankSelect, vendorId, chipId, realTimeStatus2}
-use Rattle.w83782d_map.specs.Registers.{withChassis, vendorByte, shownOf}
-use Rattle.w83782d_map.specs.Parts.{restoredByte, restoredRegisters, restoredIn}
-use Rattle.w83782d_map.proofs.Cells.{kept, kept-rows}
+use Rattle.w83782d_map.specs.Map.{cells, powerOnAt, keptAt, configuration, interruptStatus2, chassisClear, vidFanDivisor, deviceId, bankSelect, vendorId, chipId, realTimeStatus2}
+use Rattle.w83782d_registers.specs.Registers.{cellOf, reachOf, withChassis, vendorByte, shownOf}
+use Rattle.w83782d_registers.specs.Parts.{restoredByte, restoredRegisters, restoredIn}
+
+-- ---- the cell of an index
+pub reached : (rs : List ℕ) (i s c : ℕ) → s ≡ getD rs bankSelect 0 → c ≡ cellOf (bitAnd s 7) i → c ≡ reachOf rs i
+reached rs i s c e f = f ∙ ap (λ (x : ℕ). cellOf (bitAnd x 7) i) e
+
+module _ (b i : ℕ) where
+  pub cell-below : i < 0x20 → 112 ≡ cellOf b i
+  unfolding cellOf
+  cell-below h = simp (lt-ltb i 0x20 h)
+
+  pub cell-above : 0x20 ≤ i → 0x7F < i → 112 ≡ cellOf b i
+  unfolding cellOf
+  cell-above h k = simp (le-ltb i 0x20 h, lt-ltb 0x7F i k)
+
+  pub cell-alias : 0x20 ≤ i → i ≤ 0x7F → 0x60 ≤ i → i - 0x60 ≡ cellOf b i
+  unfolding cellOf
+  cell-alias h k a = simp (le-ltb i 0x20 h, le-ltb 0x7F i k, le-leb 0x60 i a) (omega arith)
+
+  pub cell-any : 0x20 ≤ i → i ≤ 0x7F → i < 0x60 → i < 0x50 → i - 0x20 ≡ cellOf b i
+  unfolding cellOf
+  cell-any h k a l = simp (le-ltb i 0x20 h, le-ltb 0x7F i k, lt-leb 0x60 i a, lt-ltb i 0x50 l)
+
+  module _ (h : 0x20 ≤ i) (k : i ≤ 0x7F) (a : i < 0x60) (l : 0x50 ≤ i) where
+    pub cell-bank-0 : b ≡ 0 → i - 0x20 ≡ cellOf b i
+    unfolding cellOf
+    cell-bank-0 e = simp (le-ltb i 0x20 h, le-ltb 0x7F i k, lt-leb 0x60 i a, le-ltb i 0x50 l, e)
+
+    pub cell-bank-1 : b ≡ 1 → i - 0x10 ≡ cellOf b i
+    unfolding cellOf
+    cell-bank-1 e = simp (le-ltb i 0x20 h, le-ltb 0x7F i k, lt-leb 0x60 i a, le-ltb i 0x50 l, e) (omega arith)
+
+    pub cell-bank-2 : b ≡ 2 → i ≡ cellOf b i
+    unfolding cellOf
+    cell-bank-2 e = simp (le-ltb i 0x20 h, le-ltb 0x7F i k, lt-leb 0x60 i a, le-ltb i 0x50 l, e) (omega arith)
+
+    pub cell-bank-4 : b ≡ 4 → i + 0x10 ≡ cellOf b i
+    unfolding cellOf
+    cell-bank-4 e = simp (le-ltb i 0x20 h, le-ltb 0x7F i k, lt-leb 0x60 i a, le-ltb i 0x50 l, e) (omega arith)
+
+    pub cell-bank-none : (b ≡ 0 → ⊥) → (b ≡ 1 → ⊥) → (b ≡ 2 → ⊥) → (b ≡ 4 → ⊥) → 112 ≡ cellOf b i
+    unfolding cellOf
+    cell-bank-none n0 n1 n2 n4 =
+        simp (le-ltb i 0x20 h, le-ltb 0x7F i k, lt-leb 0x60 i a, le-ltb i 0x50 l, ne-eqb b 0 n0, ne-eqb b 1 n1, ne-eqb b 2 n2, ne-eqb b 4 n4)
 
 -- ---- power-on and reset
 pub restored-all : (keep : Bool) (c old p : ℕ) → not keep ≡ true → p ≡ powerOnAt c → p ≡ restoredByte keep c old
 restored-all true c old p n e = absurd (false≢true n)
 restored-all false c old p n e = e
 
-pub restored-kept : (keep h : Bool) (c old : ℕ) → c < cells → not keep ≡ false → h ≡ kept c → h ≡ true → old ≡ restoredByte keep c old
-restored-kept true h c old l n e f = simp (← kept-rows c l, ← e, f)
-restored-kept false h c old l n e f = absurd (true≢false n)
+pub restored-kept : (keep h : Bool) (c old : ℕ) → not keep ≡ false → h ≡ keptAt c → h ≡ true → old ≡ restoredByte keep c old
+restored-kept true h c old n e f = simp (← e, f)
+restored-kept false h c old n e f = absurd (true≢false n)
 
-pub restored-other : (keep h : Bool) (c old p : ℕ) → c < cells → not keep ≡ false → h ≡ kept c → h ≡ false → p ≡ powerOnAt c → p ≡ restoredByte keep c old
-restored-other true h c old p l n e f g = simp (← kept-rows c l, ← e, f) g
-restored-other false h c old p l n e f g = absurd (true≢false n)
+pub restored-other : (keep h : Bool) (c old p : ℕ) → not keep ≡ false → h ≡ keptAt c → h ≡ false → p ≡ powerOnAt c → p ≡ restoredByte keep c old
+restored-other true h c old p n e f g = simp (← e, f) g
+restored-other false h c old p n e f g = absurd (true≢false n)
 
 pub restored-length : (keep : Bool) (rs : List ℕ) → length (restoredRegisters keep rs) ≡ cells
 unfolding restoredRegisters

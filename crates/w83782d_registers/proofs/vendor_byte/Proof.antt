@@ -1,7 +1,7 @@
 use borrow.Author.Needs.{needs}
-use Rattle.w83782d_map.proofs.Cases.{vendor-on, vendor-off}
-use Rattle.w83782d_map.proofs.vendor_byte.Statement.{statement}
-use Rattle.w83782d_map.proofs.vendor_byte.Tie as tie
+use Rattle.w83782d_registers.proofs.Cases.{vendor-on, vendor-off}
+use Rattle.w83782d_registers.proofs.vendor_byte.Statement.{statement}
+use Rattle.w83782d_registers.proofs.vendor_byte.Tie as tie
 
 is-on-requires : tie.Need-is-on-requires
 is-on-requires c κs = search needs

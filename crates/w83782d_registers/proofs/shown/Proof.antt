@@ -1,7 +1,7 @@
 use borrow.Author.Needs.{needs}
-use Rattle.w83782d_map.proofs.Cases.{shown-configuration, shown-status, shown-clear, shown-divisor, shown-device, shown-vendor, shown-chip, shown-cell}
-use Rattle.w83782d_map.proofs.shown.Statement.{statement}
-use Rattle.w83782d_map.proofs.shown.Tie as tie
+use Rattle.w83782d_registers.proofs.Cases.{shown-configuration, shown-status, shown-clear, shown-divisor, shown-device, shown-vendor, shown-chip, shown-cell}
+use Rattle.w83782d_registers.proofs.shown.Statement.{statement}
+use Rattle.w83782d_registers.proofs.shown.Tie as tie
 
 cell-requires : tie.Need-cell-requires
 cell-requires c κs = search needs

@@ -1,0 +1,22 @@
+-- What an access to a cell answers and what a write to it stores (document 01, "Register map", "Answer numbers").
+use mathlib.Core.Bool.{_||_}
+use Prim.Native.Nat.{ℕ}
+use lib.Bits.{bitAnd}
+use lib.Dec.{eqb}
+use Rattle.bits.specs.Bits.{choose}
+use Rattle.w83782d_map.specs.Map.{presentAt, writableAt, configuration, chassisClear}
+
+-- ---- answers: 1 before 2
+
+-- 1: "index below 20h or above 7Fh, reserved index, or absent bank"; 2: "write to a read-only register"
+unfoldable pub writeAnswer : ℕ → ℕ
+writeAnswer c = choose (presentAt c) (choose (eqb (writableAt c) 0) 2 0) 1
+
+unfoldable pub readAnswer : ℕ → ℕ
+readAnswer c = choose (presentAt c) 0 1
+
+-- ---- the bits that a write stores
+
+-- bit 7 of 40h and of 46h is a command: it is never stored
+abbrev pub storedBits : ℕ → ℕ
+storedBits c = choose (eqb c configuration || eqb c chassisClear) (bitAnd (writableAt c) 0b0111_1111) (writableAt c)

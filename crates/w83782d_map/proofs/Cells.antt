@@ -16,7 +16,7 @@ use Rattle.bits.specs.Map.{Row, rowSays}
 use Rattle.bits.proofs.Every.{both, both-left, both-right, every-at, beq-same}
 use Rattle.bits.proofs.ChangeLaws.{and-left}
 use Rattle.bits.proofs.Match.{NoKey, or-either, last-arm}
-use Rattle.w83782d_map.specs.Map.{cells, rows, keptByReset, presentAt, writableAt, powerOnAt, keptAt, configuration, chassisClear, bankSelect}
+use Rattle.w83782d_map.specs.Map.{at, atBank, cells, rows, keptByReset, presentAt, writableAt, powerOnAt, keptAt, configuration, chassisClear, bankSelect}
 use Rattle.w83782d_map.specs.Access.{writeAnswer, storedBits}
 use Rattle.w83782d_map.specs.Parts.{inSet}
 
@@ -127,7 +127,15 @@ present-cell c e = ltb-true c cells (and-left (ltb c cells) _ e)
 
 -- ---- the values of a cell, arm by arm; the keys of all arms, the last arm's first
 abbrev pub storedKeys : List (List ℕ)
-storedKeys = (84 ∷ 86 ∷ []) ∷ (68 ∷ 70 ∷ []) ∷ (83 ∷ 85 ∷ []) ∷ (67 ∷ 69 ∷ []) ∷ (66 ∷ 82 ∷ []) ∷ (61 ∷ []) ∷ (58 ∷ 63 ∷ []) ∷ (59 ∷ 62 ∷ []) ∷ (57 ∷ []) ∷ (55 ∷ []) ∷ (46 ∷ []) ∷ (44 ∷ []) ∷ (43 ∷ []) ∷ (40 ∷ 60 ∷ []) ∷ (39 ∷ []) ∷ (36 ∷ []) ∷ (35 ∷ 42 ∷ 45 ∷ 54 ∷ []) ∷ (32 ∷ []) ∷ (26 ∷ 28 ∷ []) ∷ (25 ∷ 27 ∷ 29 ∷ []) ∷ (20 ∷ 22 ∷ 24 ∷ []) ∷ (19 ∷ 21 ∷ 23 ∷ []) ∷ (12 ∷ 14 ∷ 16 ∷ 18 ∷ []) ∷ (11 ∷ 13 ∷ 15 ∷ 17 ∷ []) ∷ []
+storedKeys =
+    (atBank 2 0x54 ∷ atBank 2 0x56 ∷ []) ∷ (atBank 1 0x54 ∷ atBank 1 0x56 ∷ []) ∷ (atBank 2 0x53 ∷ atBank 2 0x55 ∷ [])
+    ∷ (atBank 1 0x53 ∷ atBank 1 0x55 ∷ []) ∷ (atBank 1 0x52 ∷ atBank 2 0x52 ∷ []) ∷ (at 0x5D ∷ []) ∷ (at 0x5A ∷ at 0x5F ∷ [])
+    ∷ (at 0x5B ∷ at 0x5E ∷ []) ∷ (at 0x59 ∷ []) ∷ (at 0x57 ∷ []) ∷ (at 0x4E ∷ []) ∷ (at 0x4C ∷ []) ∷ (at 0x4B ∷ [])
+    ∷ (at 0x48 ∷ at 0x5C ∷ []) ∷ (at 0x47 ∷ []) ∷ (at 0x44 ∷ []) ∷ (at 0x43 ∷ at 0x4A ∷ at 0x4D ∷ at 0x56 ∷ [])
+    ∷ (at 0x40 ∷ []) ∷ (at 0x3A ∷ at 0x3C ∷ []) ∷ (at 0x39 ∷ at 0x3B ∷ at 0x3D ∷ []) ∷ (at 0x34 ∷ at 0x36 ∷ at 0x38 ∷ [])
+    ∷ (at 0x33 ∷ at 0x35 ∷ at 0x37 ∷ []) ∷ (at 0x2C ∷ at 0x2E ∷ at 0x30 ∷ at 0x32 ∷ [])
+    ∷ (at 0x2B ∷ at 0x2D ∷ at 0x2F ∷ at 0x31 ∷ [])
+    ∷ []
 
 -- no row reaches 60h
 belowAlias : List Row → Bool
@@ -187,8 +195,10 @@ clear-stores-none = refl
 
 abbrev pub powerKeys : List (List ℕ)
 powerKeys =
-    (69 ∷ 85 ∷ []) ∷ (67 ∷ 83 ∷ []) ∷ (60 ∷ []) ∷ (58 ∷ 63 ∷ []) ∷ (59 ∷ 62 ∷ []) ∷ (57 ∷ []) ∷ (56 ∷ []) ∷ (46 ∷ 55 ∷ []) ∷ (45 ∷ []) ∷ (43 ∷ []) ∷ (41 ∷ []) ∷ (40 ∷ [])
-    ∷ (39 ∷ []) ∷ (32 ∷ 42 ∷ 44 ∷ []) ∷ []
+    (atBank 1 0x55 ∷ atBank 2 0x55 ∷ []) ∷ (atBank 1 0x53 ∷ atBank 2 0x53 ∷ []) ∷ (at 0x5C ∷ []) ∷ (at 0x5A ∷ at 0x5F ∷ [])
+    ∷ (at 0x5B ∷ at 0x5E ∷ []) ∷ (at 0x59 ∷ []) ∷ (at 0x58 ∷ []) ∷ (at 0x4E ∷ at 0x57 ∷ []) ∷ (at 0x4D ∷ []) ∷ (at 0x4B ∷ [])
+    ∷ (at 0x49 ∷ []) ∷ (at 0x48 ∷ []) ∷ (at 0x47 ∷ []) ∷ (at 0x40 ∷ at 0x4A ∷ at 0x4C ∷ [])
+    ∷ []
 
 power-in : (c : ℕ) → c < cells → NoKey powerKeys c → 0 ≡ powerOnAt c
 unfolding powerOnAt rows

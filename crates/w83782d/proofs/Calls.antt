@@ -1,11 +1,14 @@
 -- The methods' definitions are the calls of the alarm claim: each by its own definition.
 -- Assumes nothing.
 use mathlib.Core.Path.{_≡_, refl}
+use Rattle.samples.specs.declared.Sample.{Sample}
+use Rattle.event.specs.declared.Kind.{Kind}
+use Rattle.event.specs.declared.Kind.the-variants as kind
 use Rattle.w83782d_bus.specs.Bus.{written}
 use Rattle.w83782d_alarm.specs.Alarm.{Call, write, read, sample, chassis, setPlan, answerTo}
 use Rattle.w83782d.specs.declared.Monitor.{Monitor}
-use Rattle.w83782d.specs.Monitor.{stateOf}
-use Rattle.w83782d.specs.Alarm.{answerOf, MonitorCalls}
+use Rattle.w83782d.specs.Monitor.{stateOf, applyOf}
+use Rattle.w83782d.specs.Alarm.{answerOf, callFor, MonitorCalls}
 
 same : (m : Monitor) (c : Call) → written (stateOf (answerOf m c .monitor)) (answerOf m c .answer) ≡ answerTo (stateOf m) c
 same m (write i v) = refl
@@ -14,5 +17,13 @@ same m (sample x) = refl
 same m chassis = refl
 same m (setPlan f w) = refl
 
+-- by the kind
+applied : (m : Monitor) (k : Kind) (x : Sample)
+    → record { monitor = applyOf m (record { kind = k; sample = x }) .monitor; answer = applyOf m (record { kind = k; sample = x }) .answer } ≡ answerOf m (callFor k x)
+applied m (kind.Write i v) x = refl
+applied m (kind.Read i) x = refl
+applied m kind.Sample x = refl
+applied m kind.Chassis x = refl
+
 pub monitor-calls : MonitorCalls
-monitor-calls = record { calls = same; byte = λ m i. refl }
+monitor-calls = record { calls = same; events = λ m e. applied m (e .kind) (e .sample); byte = λ m i. refl }

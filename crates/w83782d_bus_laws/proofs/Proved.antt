@@ -20,5 +20,12 @@ write-claims s i v w h =
       reset = reset s v;
     }
 
-pub read-claims : (s : State) (i : ℕ) → Whole s → ReadClaims s i
-read-claims s i w = record { leaves = leaves s i (w .count); shown = shown s }
+pub read-claims : (s : State) (i : ℕ) → Whole s → i < 256 → ReadClaims s i
+read-claims s i w h =
+    record {
+      answers = λ v. answers s i v h;
+      refused = refused s i;
+      alias = alias s i;
+      leaves = leaves s i (w .count);
+      shown = shown s;
+    }

@@ -193,6 +193,10 @@ pub record WriteClaims (s : State) (i v : ℕ) : Type 0 where
   pub reset : Reset s v
 
 pub record ReadClaims (s : State) (i : ℕ) : Type 0 where
+  -- of both accesses at that index, whatever byte a write has
+  pub answers : (v : ℕ) → Answers s i v
+  pub refused : (v : ℕ) → Refused s i v
+  pub alias : (v : ℕ) → Alias s i v
   pub leaves : ReadLeaves s i
   pub shown : ShownBytes s
 

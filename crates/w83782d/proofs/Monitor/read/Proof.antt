@@ -19,7 +19,7 @@ returns : tie.Need-returns
 returns c =
     let m = c .before .before .before .before .before .before .args .self in
     let fits : (k : ℕ) → Fits w8 (getD (m .registers) k 0) = λ k. search needs in
-    (search (needs, read-face), read-claims (stateOf m) _ (record { count = search needs; bytes = λ k. fits k .fits }))
+    (search (needs, read-face), read-claims (stateOf m) _ (record { count = search needs; bytes = λ k. fits k .fits }) (search needs))
 
 pub read-spec : {M : Type 1} → statement M
 read-spec = tie.close (tie.spec slice-aggregate-read-in read-in-requires returns)

@@ -34,7 +34,7 @@ use Rattle.w83782d_map.proofs.Cells.{answered-cell}
 use Rattle.w83782d_bus_laws.proofs.Reached.{write-answer}
 use Rattle.w83782d_bus_laws.proofs.Frames.{stored-byte, reset-count}
 use Rattle.w83782d_sample.specs.Sample as Rule
-use Rattle.w83782d_sample.specs.Sample.{fanLimit}
+use Rattle.w83782d_conditions.specs.Conditions.{fanLimit}
 use Rattle.w83782d_store.specs.Stored.{divisorPlaces}
 use Rattle.w83782d_sample_laws.specs.Claims.{touched}
 use Rattle.w83782d_sample_laws.proofs.Stores.{frame}

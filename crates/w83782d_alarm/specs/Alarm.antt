@@ -21,7 +21,8 @@ use Rattle.w83782d_latches.specs.Effects.{openedLatches}
 use Rattle.w83782d_bus.specs.Bus.{State, state, Written, written, writeOf, readOf}
 use Rattle.w83782d_store.specs.Stored as Stored
 use Rattle.w83782d_store.specs.Stored.{divisorOf}
-use Rattle.w83782d_sample.specs.Sample.{fanLimit, sampleOf}
+use Rattle.w83782d_conditions.specs.Conditions.{fanLimit}
+use Rattle.w83782d_sample.specs.Sample.{sampleOf}
 use Rattle.w83782d_sample_laws.specs.Claims.{fanBit}
 use Rattle.w83782d_settings.specs.Plan.{settings, setPlanOf}
 use Rattle.w83782d_settings.specs.Claims.{PlanSet}

@@ -18,7 +18,7 @@ use Rattle.w83782d_latches.specs.declared.Latches.{Latches}
 use Rattle.w83782d_map.specs.Map.{cells}
 use Rattle.w83782d_bus.specs.Bus.{state, written, sized}
 use Rattle.w83782d_store.specs.Stored.{divisorPlaces}
-use Rattle.w83782d_sample.specs.Sample.{fanLimit}
+use Rattle.w83782d_conditions.specs.Conditions.{fanLimit}
 use Rattle.w83782d_settings.specs.Plan.{plannedRegisters, setPlanOf}
 
 -- the limit's cell, then the divisor's field

@@ -1,86 +1,62 @@
 -- The definitions of Sample.antt by their cases, over plain variables: what each branch of the code knows gives what it ensures.
 -- Assumes nothing.
 use mathlib.Core.Path.{_≡_, refl, ap₂, sym, _∙_}
-use mathlib.Core.Bool.{Bool, true, false, not}
+use mathlib.Core.Bool.{Bool, true, false}
 use mathlib.Core.List.{List, [], _∷_}
-use Prim.Native.Nat.{ℕ, zero, suc, _+_, _<_, max}
+use Prim.Native.Nat.{ℕ, zero, suc, _<_, max}
 use native.Mathlib.Omega.{arith}
 use borrow.Author.Tests.{eq-eqb, ne-eqb}
 use lib.Bits.{bitOr, or-lt}
-use lib.Dec.{ltb, eqb, lit<}
+use lib.Dec.{lit<}
 use lib.ListN.{getD, length, set}
-use Rattle.bits.specs.Bits.{isOn, flagOf, word}
+use Rattle.bits.specs.Bits.{flagOf, word}
 use Rattle.bits.proofs.BitLaws.{or-bit, same-byte}
 use Rattle.bits.proofs.Flags.{word-bit}
-use Rattle.fan.specs.Count.{overLimit}
 use Rattle.sensor.specs.Sensor.{remote, armed, statusOf, outputOf}
 use Rattle.sensor.specs.declared.Mode.{Mode}
 use Rattle.sensor.specs.declared.Status.{Status}
 use Rattle.sensor.specs.declared.Output.{Output}
-use Rattle.sensor.specs.declared.Mark.{Mark}
 use Rattle.sensor.specs.declared.Remote.{Remote}
 use Rattle.samples.specs.declared.Sample.{Sample}
 use Rattle.w83782d_latches.specs.declared.Latches.{Latches}
 use Rattle.w83782d_map.specs.Map.{cells, interruptStatus1, interruptStatus2, realTimeStatus2}
 use Rattle.w83782d_bus.specs.Bus.{state, written, sized}
-use Rattle.w83782d_store.specs.Stored.{fanCount, sensor1Value, bankCell, storedReadings, sampleAnswer}
+use Rattle.w83782d_store.specs.Stored.{storedReadings, sampleAnswer}
 use Rattle.w83782d_store.specs.Parts.{storedIn}
 use Rattle.w83782d_store.proofs.Rules.{stored-in}
-use Rattle.w83782d_sample.specs.declared.First.{First}
 use Rattle.w83782d_sample.specs.declared.Step.{Step}
 use Rattle.w83782d_sample.specs.declared.Judged.{Judged}
-use Rattle.w83782d_sample.specs.Sample.{fanLimit, sensor1Over, sensor1Hysteresis, ovtProperty, realTimeStatus1, modeIf, isOutside, wholeLevelAt, halfLevelAt, aboveAt, belowAt, isAbove, isBelow, isSlow, statusMode, outputMode, remoteOf, statusAt, outputAt, remoteAfter, judgedRegisters, steppedLatches, sampleOf}
-use Rattle.w83782d_sample.specs.Parts.{sensor1Step, remoteStep, Judges}
-
--- ---- conditions
-pub is-slow : (rs : List ℕ) (f : ℕ) (r : Bool) → r ≡ overLimit (getD rs (fanCount f) 0) (getD rs (fanLimit f) 0) → r ≡ isSlow rs f
-unfolding isSlow
-is-slow rs f r e = e
-
-pub stand-1 : (rs : List ℕ) (t o h : ℕ) → t ≡ wholeLevelAt rs sensor1Value → o ≡ wholeLevelAt rs sensor1Over → h ≡ wholeLevelAt rs sensor1Hysteresis
-    → (ltb o t ≡ isAbove rs 1) × (ltb t h ≡ isBelow rs 1)
-unfolding isAbove isBelow
-stand-1 rs t o h et eo eh = (ap₂ ltb eo et, ap₂ ltb et eh)
-
-pub stand-remote : (rs : List ℕ) (c t o h : ℕ) → t ≡ halfLevelAt rs c → o ≡ halfLevelAt rs (c + 5) → h ≡ halfLevelAt rs (c + 3)
-    → (ltb o t ≡ aboveAt rs c) × (ltb t h ≡ belowAt rs c)
-stand-remote rs c t o h et eo eh = (ap₂ ltb eo et, ap₂ ltb et eh)
+use Rattle.w83782d_conditions.specs.declared.Stand.{Stand}
+use Rattle.w83782d_conditions.specs.declared.Compared.{Compared}
+use Rattle.w83782d_conditions.specs.Conditions.{isOutside, isAbove, isSlow, outputMode, standOf, comparedOf}
+use Rattle.w83782d_conditions.specs.Parts.{comparedIn}
+use Rattle.w83782d_sample.specs.Sample.{realTimeStatus1, remoteOf, statusAt, outputAt, remoteAfter, judgedRegisters, steppedLatches, sampleOf}
+use Rattle.w83782d_sample.specs.Parts.{remoteStep, Judges}
 
 -- ---- the steps
-pub sensor1-stepped : (rs : List ℕ) (m : Mark) (above below : Bool) (mode : Mode) (st : Status) → (above ≡ isAbove rs 1) × (below ≡ isBelow rs 1)
-    → mode ≡ modeIf (eqb (getD rs sensor1Hysteresis 0) 127) → st ≡ statusOf mode m above below → record { status = st; above = above } ≡ sensor1Step rs m
-unfolding sensor1Step
-sensor1-stepped rs m above below mode st z e f = rw (f, e, z .0, z .1)
-
-pub remote-stepped : (rs : List ℕ) (c : ℕ) (r : Remote) (above below b d : Bool) (sm om : Mode) (st : Status) (o : Output)
-    → (above ≡ aboveAt rs c) × (below ≡ belowAt rs c) → b ≡ isOn (getD rs ovtProperty 0) 6 → sm ≡ modeIf b → d ≡ isOn (getD rs (c + 2) 0) 1 → om ≡ modeIf (not d)
-    → st ≡ statusOf sm (r .status) above below → o ≡ outputOf om (r .output) above below
-    → record { remote = remote (st .mark) o; latched = st .latched; above = above } ≡ remoteStep rs c r
+pub remote-stepped : (s : Stand) (o : Mode) (r : Remote) (st : Status) (out : Output) → st ≡ statusOf (s .mode) (r .status) (s .above) (s .below) → out ≡ outputOf o (r .output) (s .above) (s .below)
+    → record { remote = remote (st .mark) out; latched = st .latched } ≡ remoteStep s o r
 unfolding remoteStep
-remote-stepped rs c r above below b d sm om st o z eb es ed eo f g = rw (f, g, es, eo, eb, ed, z .0, z .1)
+remote-stepped s o r st out e f = rw (e, f)
 
--- and in the numbers of the definition
-above-1 : (rs : List ℕ) (l : Latches) (x : First) → x ≡ sensor1Step rs (l .sensor1) → x .above ≡ isAbove rs 1
-unfolding sensor1Step
-above-1 rs l x e = simp e
+-- what is found, of registers of 112 cells, and the steps in the numbers of the definition
+found : (rs : List ℕ) → length rs ≡ cells → (c : Compared) → c ≡ comparedIn rs → c ≡ comparedOf rs
+found rs h c e = e ∙ simp (eq-eqb (length rs) cells h)
 
-status-1 : (rs : List ℕ) (l : Latches) (x : First) → x ≡ sensor1Step rs (l .sensor1) → x .status ≡ statusAt rs l 1
-unfolding sensor1Step statusAt statusMode
-status-1 rs l x e = simp e
+module _ (rs : List ℕ) (l : Latches) where
+  status-1 : (st : Status) → st ≡ statusOf (standOf rs 1 .mode) (l .sensor1) (standOf rs 1 .above) (standOf rs 1 .below) → st ≡ statusAt rs l 1
+  unfolding standOf statusAt
+  status-1 st e = e
 
--- sensors 2 and 3, over the number
-module _ (rs : List ℕ) (l : Latches) (n : ℕ) (m : n ≡ 1 → ⊥) (x : Step) (e : x ≡ remoteStep rs (bankCell n) (remoteOf l n)) where
-  above-n : x .above ≡ isAbove rs n
-  unfolding remoteStep isAbove
-  above-n = simp (e, ne-eqb n 1 m)
+  -- sensors 2 and 3, over the number
+  module _ (n : ℕ) (m : n ≡ 1 → ⊥) (x : Step) (e : x ≡ remoteStep (standOf rs n) (outputMode rs n) (remoteOf l n)) where
+    latched-n : x .latched ≡ statusAt rs l n .latched
+    unfolding remoteStep statusAt standOf
+    latched-n = simp (e, ne-eqb n 1 m)
 
-  latched-n : x .latched ≡ statusAt rs l n .latched
-  unfolding remoteStep statusAt statusMode isAbove isBelow
-  latched-n = simp (e, ne-eqb n 1 m)
-
-  remote-n : x .remote ≡ remoteAfter rs l n
-  unfolding remoteStep statusAt statusMode outputAt outputMode isAbove isBelow
-  remote-n = simp (e, ne-eqb n 1 m)
+    remote-n : x .remote ≡ remoteAfter rs l n
+    unfolding remoteStep statusAt outputAt standOf
+    remote-n = simp (e, ne-eqb n 1 m)
 
 two-one : _≡_ {A = ℕ} 2 1 → ⊥
 two-one z = omega arith
@@ -88,18 +64,7 @@ two-one z = omega arith
 three-one : _≡_ {A = ℕ} 3 1 → ⊥
 three-one z = omega arith
 
--- ---- the bytes
-pub first-packed : (rs : List ℕ) (r : ℕ) (a b c d f g : Bool) → a ≡ isOutside rs 0 → b ≡ isOutside rs 1 → c ≡ isOutside rs 2 → d ≡ isOutside rs 3 → f ≡ isSlow rs 1 → g ≡ isSlow rs 2
-    → r ≡ word (a ∷ b ∷ c ∷ d ∷ false ∷ false ∷ f ∷ g ∷ [])
-    → r ≡ word (isOutside rs 0 ∷ isOutside rs 1 ∷ isOutside rs 2 ∷ isOutside rs 3 ∷ false ∷ false ∷ isSlow rs 1 ∷ isSlow rs 2 ∷ [])
-first-packed rs r a b c d f g ea eb ec ed ef eg e = e ∙ rw (ea, eb, ec, ed, ef, eg)
-
-pub second-packed : (rs : List ℕ) (r : ℕ) (a b c d : Bool) → a ≡ isOutside rs 4 → b ≡ isOutside rs 5 → c ≡ isOutside rs 6 → d ≡ isSlow rs 3
-    → r ≡ word (a ∷ b ∷ c ∷ d ∷ false ∷ false ∷ false ∷ false ∷ [])
-    → r ≡ word (isOutside rs 4 ∷ isOutside rs 5 ∷ isOutside rs 6 ∷ isSlow rs 3 ∷ false ∷ false ∷ false ∷ false ∷ [])
-second-packed rs r a b c d ea eb ec ed e = e ∙ rw (ea, eb, ec, ed)
-
--- the sensors' bits joined to those of rails and fans, bit by bit
+-- ---- the bytes: the sensors' bits joined to those of rails and fans, bit by bit
 flag-le : (b : Bool) → flagOf b < 2
 flag-le true = lit< tt
 flag-le false = lit< tt
@@ -146,24 +111,38 @@ short : (a b c d e f : Bool) → word (a ∷ b ∷ c ∷ d ∷ e ∷ f ∷ false
 unfolding word
 short a b c d e f = refl
 
-pub judged : (rs : List ℕ) (l : Latches) (one : First) (two three : Step) (w1 w2 r1 r2 l1 l2 : ℕ)
-    → one ≡ sensor1Step rs (l .sensor1) → two ≡ remoteStep rs 64 (getD (l .remote) 0 armed) → three ≡ remoteStep rs 80 (getD (l .remote) 1 armed)
+judged-of : (rs : List ℕ) (l : Latches) (one : Status) (two three : Step) (w1 w2 r1 r2 l1 l2 : ℕ)
+    → one ≡ statusOf (standOf rs 1 .mode) (l .sensor1) (standOf rs 1 .above) (standOf rs 1 .below)
+    → two ≡ remoteStep (standOf rs 2) (outputMode rs 2) (getD (l .remote) 0 armed) → three ≡ remoteStep (standOf rs 3) (outputMode rs 3) (getD (l .remote) 1 armed)
     → w1 ≡ word (isOutside rs 0 ∷ isOutside rs 1 ∷ isOutside rs 2 ∷ isOutside rs 3 ∷ false ∷ false ∷ isSlow rs 1 ∷ isSlow rs 2 ∷ [])
     → w2 ≡ word (isOutside rs 4 ∷ isOutside rs 5 ∷ isOutside rs 6 ∷ isSlow rs 3 ∷ false ∷ false ∷ false ∷ false ∷ [])
-    → r1 ≡ word (false ∷ false ∷ false ∷ false ∷ one .above ∷ two .above ∷ false ∷ false ∷ [])
-    → r2 ≡ word (false ∷ false ∷ false ∷ false ∷ false ∷ three .above ∷ false ∷ false ∷ [])
-    → l1 ≡ word (false ∷ false ∷ false ∷ false ∷ one .status .latched ∷ two .latched ∷ false ∷ false ∷ [])
+    → r1 ≡ word (false ∷ false ∷ false ∷ false ∷ isAbove rs 1 ∷ isAbove rs 2 ∷ false ∷ false ∷ [])
+    → r2 ≡ word (false ∷ false ∷ false ∷ false ∷ false ∷ isAbove rs 3 ∷ false ∷ false ∷ [])
+    → l1 ≡ word (false ∷ false ∷ false ∷ false ∷ one .latched ∷ two .latched ∷ false ∷ false ∷ [])
     → l2 ≡ word (false ∷ false ∷ false ∷ false ∷ false ∷ three .latched ∷ false ∷ false ∷ [])
-    → Judges rs l (record { real1 = bitOr w1 r1; real2 = bitOr w2 r2; latched1 = bitOr w1 l1; latched2 = bitOr w2 l2; latches = record { chassis = l .chassis; sensor1 = one .status .mark; remote = two .remote ∷ three .remote ∷ [] } })
+    → Judges rs l (record { real1 = bitOr w1 r1; real2 = bitOr w2 r2; latched1 = bitOr w1 l1; latched2 = bitOr w2 l2; latches = record { chassis = l .chassis; sensor1 = one .mark; remote = two .remote ∷ three .remote ∷ [] } })
 unfolding steppedLatches
-judged rs l one two three w1 w2 r1 r2 l1 l2 e1 e2 e3 d1 d2 f1 f2 g1 g2 =
+judged-of rs l one two three w1 w2 r1 r2 l1 l2 e1 e2 e3 d1 d2 f1 f2 g1 g2 =
     record {
-      real1 = ap₂ bitOr d1 f1 ∙ joined _ _ _ _ (one .above) (two .above) _ _ ∙ simp (above-1 rs l one e1, above-n rs l 2 two-one two e2);
-      real2 = ap₂ bitOr d2 f2 ∙ joined _ _ _ _ false (three .above) false false ∙ simp (above-n rs l 3 three-one three e3) (short _ _ _ _ _ _);
-      latched1 = ap₂ bitOr d1 g1 ∙ joined _ _ _ _ (one .status .latched) (two .latched) _ _ ∙ simp (status-1 rs l one e1, latched-n rs l 2 two-one two e2);
+      real1 = ap₂ bitOr d1 f1 ∙ joined _ _ _ _ _ _ _ _;
+      real2 = ap₂ bitOr d2 f2 ∙ joined _ _ _ _ false _ false false ∙ short _ _ _ _ _ _;
+      latched1 = ap₂ bitOr d1 g1 ∙ joined _ _ _ _ (one .latched) (two .latched) _ _ ∙ simp (status-1 rs l one e1, latched-n rs l 2 two-one two e2);
       latched2 = ap₂ bitOr d2 g2 ∙ joined _ _ _ _ false (three .latched) false false ∙ simp (latched-n rs l 3 three-one three e3) (short _ _ _ _ _ _);
       latches = simp (status-1 rs l one e1, remote-n rs l 2 two-one two e2, remote-n rs l 3 three-one three e3);
     }
+
+pub judged : (rs : List ℕ) (l : Latches) (c : Compared) (one : Status) (two three : Step) (r1 r2 l1 l2 : ℕ) → length rs ≡ cells → c ≡ comparedIn rs
+    → one ≡ statusOf (c .one .mode) (l .sensor1) (c .one .above) (c .one .below)
+    → two ≡ remoteStep (c .two) (c .output2) (getD (l .remote) 0 armed) → three ≡ remoteStep (c .three) (c .output3) (getD (l .remote) 1 armed)
+    → r1 ≡ word (false ∷ false ∷ false ∷ false ∷ c .one .above ∷ c .two .above ∷ false ∷ false ∷ [])
+    → r2 ≡ word (false ∷ false ∷ false ∷ false ∷ false ∷ c .three .above ∷ false ∷ false ∷ [])
+    → l1 ≡ word (false ∷ false ∷ false ∷ false ∷ one .latched ∷ two .latched ∷ false ∷ false ∷ [])
+    → l2 ≡ word (false ∷ false ∷ false ∷ false ∷ false ∷ three .latched ∷ false ∷ false ∷ [])
+    → Judges rs l (record { real1 = bitOr (c .first) r1; real2 = bitOr (c .second) r2; latched1 = bitOr (c .first) l1; latched2 = bitOr (c .second) l2; latches = record { chassis = l .chassis; sensor1 = one .mark; remote = two .remote ∷ three .remote ∷ [] } })
+unfolding comparedOf standOf
+judged rs l c one two three r1 r2 l1 l2 h e e1 e2 e3 f1 f2 g1 g2 =
+    let k = found rs h c e in
+    rw k (judged-of rs l one two three _ _ r1 r2 l1 l2 (rw k at e1) (rw k at e2) (rw k at e3) refl refl (rw k at f1) (rw k at f2) g1 g2)
 
 -- ---- four stores are the list of verdicts
 pub status-set : (rs : List ℕ) (l : Latches) (j : Judged) → Judges rs l j

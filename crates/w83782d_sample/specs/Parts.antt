@@ -1,37 +1,22 @@
 -- What the parts of the code ensure, in the words of Sample.antt.
 use mathlib.Core.Path.{_≡_}
-use mathlib.Core.Bool.{not}
 use mathlib.Core.List.{List}
-use Prim.Native.Nat.{ℕ, _+_}
-use lib.Dec.{eqb}
-use lib.ListN.{getD}
-use Rattle.bits.specs.Bits.{isOn}
+use Prim.Native.Nat.{ℕ}
 use Rattle.sensor.specs.Sensor.{remote, statusOf, outputOf}
-use Rattle.sensor.specs.declared.Mark.{Mark}
-use Rattle.sensor.specs.declared.Status.{Status}
+use Rattle.sensor.specs.declared.Mode.{Mode}
 use Rattle.sensor.specs.declared.Remote.{Remote}
 use Rattle.w83782d_latches.specs.declared.Latches.{Latches}
-use Rattle.w83782d_sample.specs.declared.First.{First}
+use Rattle.w83782d_conditions.specs.declared.Stand.{Stand}
 use Rattle.w83782d_sample.specs.declared.Step.{Step}
 use Rattle.w83782d_sample.specs.declared.Judged.{Judged}
-use Rattle.w83782d_sample.specs.Sample.{sensor1Hysteresis, ovtProperty, aboveAt, belowAt, isAbove, isBelow, modeIf, realTimeByte, latchedByte, firstByte, secondByte, steppedLatches}
+use Rattle.w83782d_sample.specs.Sample.{realTimeByte, latchedByte, firstByte, secondByte, steppedLatches}
 
--- the steps, of sensor 1, and of sensors 2 and 3 by the first cell of the bank
-unfoldable pub sensor1Step : List ℕ → Mark → First
-sensor1Step rs m =
-    record { status = statusOf (modeIf (eqb (getD rs sensor1Hysteresis 0) 127)) m (isAbove rs 1) (isBelow rs 1); above = isAbove rs 1 }
-
-abbrev pub remoteStatus : List ℕ → ℕ → Mark → Status
-remoteStatus rs c m = statusOf (modeIf (isOn (getD rs ovtProperty 0) 6)) m (aboveAt rs c) (belowAt rs c)
-
-unfoldable pub remoteStep : List ℕ → ℕ → Remote → Step
-remoteStep rs c r =
+-- the step of sensors 2 and 3, from where the sensor stands and its OVT mode
+unfoldable pub remoteStep : Stand → Mode → Remote → Step
+remoteStep s o r =
     record {
-      remote =
-          remote (remoteStatus rs c (r .status) .mark)
-          (outputOf (modeIf (not (isOn (getD rs (c + 2) 0) 1))) (r .output) (aboveAt rs c) (belowAt rs c));
-      latched = remoteStatus rs c (r .status) .latched;
-      above = aboveAt rs c;
+      remote = remote (statusOf (s .mode) (r .status) (s .above) (s .below) .mark) (outputOf o (r .output) (s .above) (s .below));
+      latched = statusOf (s .mode) (r .status) (s .above) (s .below) .latched;
     }
 
 -- what the readings stored say

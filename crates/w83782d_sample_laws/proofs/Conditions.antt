@@ -26,7 +26,8 @@ use Rattle.w83782d_map.specs.Map.{cells, interruptStatus1, interruptStatus2, re
 use Rattle.w83782d_latches.specs.Effects.{latches}
 use Rattle.w83782d_bus.specs.Bus.{State}
 use Rattle.w83782d_store.specs.Stored.{voltage, fanCount, sensor1Value, bankCell, voltageOf, halvesOf, countOf, readings, storedReadings}
-use Rattle.w83782d_sample.specs.Sample.{Source, firstByte, secondByte, highLimit, lowLimit, fanLimit, sensor1Over, sensor1Hysteresis, ovtProperty, realTimeStatus1, isOutside, isAbove, isBelow, isSlow, statusMode, outputMode, remoteOf, statusAt, outputAt, condition, latchedBy, verdicts, latchedByte, steppedLatches, sampleOf}
+use Rattle.w83782d_conditions.specs.Conditions.{highLimit, lowLimit, fanLimit, sensor1Over, sensor1Hysteresis, ovtProperty, isOutside, isAbove, isBelow, isSlow, statusMode, outputMode}
+use Rattle.w83782d_sample.specs.Sample.{Source, firstByte, secondByte, realTimeStatus1, remoteOf, statusAt, outputAt, condition, latchedBy, verdicts, latchedByte, steppedLatches, sampleOf}
 use Rattle.w83782d_sample.specs.Sample.Source.{rail, sensor, fan, chassis}
 use Rattle.w83782d_sample_laws.specs.Claims.{halvesIn, Stores, cellIn, after, isBeside, isHotter, isColder, isSlower, holdsFor, flagAt, Fits, RealTime, FanRings, statusFor, outputFor, latchesFor, StatusOr, LatchesAfter}
 use Rattle.w83782d_sample_laws.proofs.Stores.{lastOf, cellsOf, isOf, stored-at, stored-other, accepted-state, left-at}

@@ -27,7 +27,8 @@ use Rattle.w83782d_latches.specs.declared.Latches.{Latches}
 use Rattle.w83782d_map.specs.Map.{cells, bankAt, indexAt, configuration, interruptStatus1, interruptStatus2}
 use Rattle.w83782d_bus.specs.Bus.{State}
 use Rattle.w83782d_store.specs.Stored.{Store, puts, none, voltage, fanCount, sensor1Value, bankCell, divisorPlaces, divisorOf, countOf, readings, storedReadings, sampleAnswer}
-use Rattle.w83782d_sample.specs.Sample.{highLimit, lowLimit, fanLimit, sensor1Over, sensor1Hysteresis, ovtProperty, isOutside, isAbove, isBelow, isSlow, statusMode, outputMode, statusAt, outputAt, latchedBy, verdicts, judgedRegisters, steppedLatches, sampleOf}
+use Rattle.w83782d_conditions.specs.Conditions.{highLimit, lowLimit, fanLimit, sensor1Over, sensor1Hysteresis, ovtProperty, isOutside, isAbove, isBelow, isSlow, statusMode, outputMode}
+use Rattle.w83782d_sample.specs.Sample.{statusAt, outputAt, latchedBy, verdicts, judgedRegisters, steppedLatches, sampleOf}
 use Rattle.w83782d_sample.specs.Sample.Source.{sensor}
 use Rattle.w83782d_readings.specs.Outputs.{smiMask1, smiMask2, smiOf}
 use Rattle.w83782d_sample_laws.specs.Claims.{Whole, cellIn, after, touched, ruleless, Alike, StoredOnly}

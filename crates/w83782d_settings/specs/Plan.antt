@@ -12,7 +12,7 @@ use Rattle.fan.specs.declared.Divisor.{Divisor}
 use Rattle.planner.specs.declared.Planned.{Planned}
 use Rattle.planner.specs.declared.Planned.the-variants.{Plan, Refused}
 use Rattle.w83782d_bus.specs.Bus.{State, state, Written, written}
-use Rattle.w83782d_sample.specs.Sample.{fanLimit}
+use Rattle.w83782d_conditions.specs.Conditions.{fanLimit}
 use Rattle.w83782d_store.specs.Stored.{divisorPlaces}
 
 -- "Setting it writes that fan's limit and three divisor bits, and nothing else"

@@ -9,20 +9,17 @@ element-copy-out-p c = search needs
 element-copy-out-q : tie.Need-element-copy-out-q
 element-copy-out-q c = search needs
 
-sensor1-step-requires : tie.Need-sensor1-step-requires
-sensor1-step-requires c κs = search needs
+compare-requires : tie.Need-compare-requires
+compare-requires c κs = search needs
+
+status-step-requires : tie.Need-status-step-requires
+status-step-requires c κs = search needs
 
 remote-step-requires : tie.Need-remote-step-requires
 remote-step-requires c κs = search needs
 
 remote-step-requires-2 : tie.Need-remote-step-requires-2
 remote-step-requires-2 c κs = search needs
-
-first-byte-requires : tie.Need-first-byte-requires
-first-byte-requires c κs = search needs
-
-second-byte-requires : tie.Need-second-byte-requires
-second-byte-requires c κs = search needs
 
 sensors-requires : tie.Need-sensors-requires
 sensors-requires c κs = search needs
@@ -42,12 +39,12 @@ returns c =
     let latched1 = latched2 .before in
     let real2 = latched1 .before in
     let real1 = real2 .before in
-    let second = real1 .before in
-    let first = second .before in
-    let three = first .before .before in
+    let three = real1 .before in
     let two = three .before in
-    judged _ _ _ _ _ _ _ _ _ _ _ (two .before .sensor1-step .ensures) (two .remote-step .ensures) (three .remote-step2 .ensures)
-    (first .first-byte .ensures) (second .second-byte .ensures) (real1 .sensors .ensures) (real2 .sensors2 .ensures) (latched1 .sensors3 .ensures) (latched2 .sensors4 .ensures)
+    let one = two .before in
+    let found = one .before .before .before .before in
+    judged _ _ _ _ _ _ _ _ _ _ (found .before .before .before .before .pre) (found .compare .ensures) (one .status-step .ensures) (two .remote-step .ensures) (three .remote-step2 .ensures)
+    (real1 .sensors .ensures) (real2 .sensors2 .ensures) (latched1 .sensors3 .ensures) (latched2 .sensors4 .ensures)
 
 pub judge-spec : {M : Type 1} → statement M
 judge-spec =
@@ -55,11 +52,10 @@ judge-spec =
     (tie.spec
     element-copy-out-p
     element-copy-out-q
-    sensor1-step-requires
+    compare-requires
+    status-step-requires
     remote-step-requires
     remote-step-requires-2
-    first-byte-requires
-    second-byte-requires
     sensors-requires
     sensors-requires-2
     sensors-requires-3

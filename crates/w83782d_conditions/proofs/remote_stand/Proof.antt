@@ -1,7 +1,7 @@
 use borrow.Author.Needs.{needs}
-use Rattle.w83782d_sample.proofs.Rules.{stand-remote}
-use Rattle.w83782d_sample.proofs.remote_stand.Statement.{statement}
-use Rattle.w83782d_sample.proofs.remote_stand.Tie as tie
+use Rattle.w83782d_conditions.proofs.Rules.{stand-remote}
+use Rattle.w83782d_conditions.proofs.remote_stand.Statement.{statement}
+use Rattle.w83782d_conditions.proofs.remote_stand.Tie as tie
 
 half-level-at-requires : tie.Need-half-level-at-requires
 half-level-at-requires c κs = search needs
@@ -18,8 +18,17 @@ add-half-level-at-2 c = search needs
 half-level-at-requires-3 : tie.Need-half-level-at-requires-3
 half-level-at-requires-3 c κs = search needs
 
+shared-slice-read-is-on : tie.Need-shared-slice-read-is-on
+shared-slice-read-is-on c = search needs
+
+is-on-requires : tie.Need-is-on-requires
+is-on-requires c κs = search needs
+
+mode-if-requires : tie.Need-mode-if-requires
+mode-if-requires c κs = search needs
+
 returns : tie.Need-returns
-returns c = stand-remote (c .before .before .before .before .args .s .now) (c .before .before .before .before .args .bank) _ _ _ (c .before .before .half-level-at .ensures) (c .before .half-level-at2 .ensures) (c .half-level-at3 .ensures)
+returns c = search (needs, stand-remote)
 
 pub remote-stand-spec : {M : Type 1} → statement M
 remote-stand-spec =
@@ -30,4 +39,7 @@ remote-stand-spec =
     half-level-at-requires-2
     add-half-level-at-2
     half-level-at-requires-3
+    shared-slice-read-is-on
+    is-on-requires
+    mode-if-requires
     returns)

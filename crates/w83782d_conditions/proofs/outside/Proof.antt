@@ -1,8 +1,8 @@
 use mathlib.Core.Path.{refl}
 use borrow.Author.Needs.{needs}
-use Rattle.w83782d_sample.specs.Sample.{isOutside}
-use Rattle.w83782d_sample.proofs.outside.Statement.{statement}
-use Rattle.w83782d_sample.proofs.outside.Tie as tie
+use Rattle.w83782d_conditions.specs.Conditions.{isOutside}
+use Rattle.w83782d_conditions.proofs.outside.Statement.{statement}
+use Rattle.w83782d_conditions.proofs.outside.Tie as tie
 
 add-v : tie.Need-add-v
 add-v c = search needs

@@ -1,7 +1,7 @@
 use borrow.Author.Needs.{needs}
-use Rattle.w83782d_sample.proofs.Rules.{stand-1}
-use Rattle.w83782d_sample.proofs.sensor1_stand.Statement.{statement}
-use Rattle.w83782d_sample.proofs.sensor1_stand.Tie as tie
+use Rattle.w83782d_conditions.proofs.Rules.{stand-1}
+use Rattle.w83782d_conditions.proofs.sensor1_stand.Statement.{statement}
+use Rattle.w83782d_conditions.proofs.sensor1_stand.Tie as tie
 
 shared-slice-read-whole-level : tie.Need-shared-slice-read-whole-level
 shared-slice-read-whole-level c = search needs
@@ -21,8 +21,14 @@ shared-slice-read-whole-level-3 c = search needs
 whole-level-requires-3 : tie.Need-whole-level-requires-3
 whole-level-requires-3 c κs = search needs
 
+shared-slice-read-mode-if : tie.Need-shared-slice-read-mode-if
+shared-slice-read-mode-if c = search needs
+
+mode-if-requires : tie.Need-mode-if-requires
+mode-if-requires c κs = search needs
+
 returns : tie.Need-returns
-returns c = stand-1 _ _ _ _ (c .before .before .before .before .whole-level .ensures) (c .before .before .whole-level2 .ensures) (c .whole-level3 .ensures)
+returns c = search (needs, stand-1)
 
 pub sensor1-stand-spec : {M : Type 1} → statement M
 sensor1-stand-spec =
@@ -34,4 +40,6 @@ sensor1-stand-spec =
     whole-level-requires-2
     shared-slice-read-whole-level-3
     whole-level-requires-3
+    shared-slice-read-mode-if
+    mode-if-requires
     returns)

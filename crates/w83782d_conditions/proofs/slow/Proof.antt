@@ -1,7 +1,7 @@
 use borrow.Author.Needs.{needs}
-use Rattle.w83782d_sample.proofs.Rules.{is-slow}
-use Rattle.w83782d_sample.proofs.slow.Statement.{statement}
-use Rattle.w83782d_sample.proofs.slow.Tie as tie
+use Rattle.w83782d_conditions.proofs.Rules.{is-slow}
+use Rattle.w83782d_conditions.proofs.slow.Statement.{statement}
+use Rattle.w83782d_conditions.proofs.slow.Tie as tie
 
 add-t3 : tie.Need-add-t3
 add-t3 c = search needs

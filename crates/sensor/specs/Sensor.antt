@@ -43,13 +43,13 @@ turned Armed = Hot
 turned Hot = Armed
 
 -- "in comparator mode it latches at each sample above the over limit. In two-times mode each sensor is either armed or hot; armed and
--- above the over limit: latch, hot; hot and below hysteresis: latch, armed; one step a sample."
+-- above the over limit: latch, hot; hot and below hysteresis: latch, armed; one step a sample." decisions D-42, D-43
 unfoldable pub statusOf : Mode → Mark → Bool → Bool → Status
 statusOf Comparator m above below = status (markIf above) above
 statusOf Interrupt m above below = choose (crosses m above below) (status (turned m) true) (status m false)
 
 -- "comparator: above over limit asserts, otherwise below hysteresis releases, otherwise it stays. 1, interrupt: armed and above asserts,
--- then hot; hot and below hysteresis asserts, then armed"; its mark is "set in comparator mode as above"
+-- then hot; hot and below hysteresis asserts, then armed"; its mark is "set in comparator mode as above". decisions D-42, D-44
 unfoldable pub outputOf : Mode → Output → Bool → Bool → Output
 outputOf Comparator o above below = output (markIf above) (choose above true (choose below false (o .asserted)))
 outputOf Interrupt o above below = choose (crosses (o .mark) above below) (output (turned (o .mark)) true) o

@@ -53,7 +53,7 @@ setPlanOf m f w = answered (Plan.setPlanOf (stateOf m) f w)
 abbrev pub applyOf : Monitor → Event → Shown
 applyOf m e = shown (Replay.applyOf (stateOf m) (e .kind) (e .sample))
 
--- "OVT, for sensors 2 and 3": asserted or not
+-- "OVT, for sensors 2 and 3": asserted or not. decision D-22
 unfoldable pub ovtOf : Monitor → ℕ → Bool
 ovtOf m n =
     choose (eqb n 2) (getD (m .latches .remote) 0 armed .output .asserted)

@@ -71,6 +71,7 @@ sets f (read i) = none
 sets f (sample x) = none
 sets f chassis = none
 
+-- judged by the call and the plan alone, never by the registers. decision D-49
 abbrev pub ends : ℕ → Set → Call → Bool
 ends f p (write i v) = isReset i v || rewrites (settings f (p .divisor) (p .limit)) (reached i) v
 ends f p (read i) = false
@@ -84,7 +85,7 @@ watched f = record { step = λ s c. answerTo s c .state; answer = λ s c. answer
 
 -- ---- ringing
 
--- the fan's real-time bit as a bus read of bank 4 shows it: "fan 1, fan 2" in 59h, "fan 3" in 5Ah
+-- the fan's real-time bit as a bus read of bank 4 shows it: "fan 1, fan 2" in 59h, "fan 3" in 5Ah. decision D-28
 abbrev pub realTimeBit : State → ℕ → ℕ
 realTimeBit s f = bit (readOf (writeOf s 0x4E 4 .state) (choose (eqb f 3) 0x5A 0x59) .byte) (fanBit f)
 
@@ -92,7 +93,7 @@ realTimeBit s f = bit (readOf (writeOf s 0x4E 4 .state) (choose (eqb f 3) 0x5A 0
 abbrev pub undividedOf : Sample → ℕ → ℕ
 undividedOf x f = getD (x .counts) (f - 1) Stored.none .0
 
--- "the two being set instead"
+-- "the two being set instead". decision D-29
 abbrev pub withInstead : State → ℕ → Divisor → ℕ → State
 withInstead s f d l = state (changes (s .registers) (settings f d l)) (s .latches)
 

@@ -1,5 +1,5 @@
 // The register side of the W83782D, in place on the registers' slice with the small latches by value:
-// power-on, bus write, bus read, reset and the chassis event.
+// power-on, bus write, bus read and reset.
 ghost use mathlib.Core.Path.{_≡_};
 ghost use lib.ListN.{length};
 ghost use Rattle.w83782d_map.specs.Map.{cells};

@@ -1,5 +1,5 @@
 -- What is claimed of bus accesses, reset and the chassis event, from every state, refused or not.
--- The definitions are those that the contracts cite (w83782d_bus, Map.antt and Bus.antt).
+-- The definitions are those that the contracts cite (Map.antt, Access.antt, Registers.antt, Effects.antt, Bus.antt).
 use mathlib.Core.Path.{_≡_}
 use mathlib.Core.Bool.{Bool, true, false, _&&_, _||_}
 use mathlib.Core.List.{List, [], _∷_}

@@ -40,13 +40,13 @@ isInterrupt rs n = isOn (getD rs (remoteConfiguration n) 0) 1
 abbrev pub withReleased : Latches → ℕ → Latches
 withReleased l n = latches (l .chassis) (l .sensor1) (set (l .remote) n (releasedOf (getD (l .remote) n armed)))
 
--- in interrupt mode "reading that bank's 50h releases"
+-- in interrupt mode "reading that bank's 50h releases". decision D-11
 abbrev pub releases : List ℕ → ℕ → ℕ → Bool
 releases rs c n = eqb c (remoteValue n) && isInterrupt rs n
 
 unfoldable pub readLatches : List ℕ → Latches → ℕ → Latches
 readLatches rs l c = choose (releases rs c 0) (withReleased l 0) (choose (releases rs c 1) (withReleased l 1) l)
 
--- ---- a chassis event: "set by a chassis event even in standby"
+-- ---- a chassis event: "set by a chassis event even in standby". decision D-10
 abbrev pub openedLatches : Latches → Latches
 openedLatches l = latches true (l .sensor1) (l .remote)

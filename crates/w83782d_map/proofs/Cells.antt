@@ -1,22 +1,20 @@
 -- The code's sets of cells, and its values by their exceptions, are those of the rows.
 -- One computed test over all cells for the sets; the values by their arms. Assumes nothing.
-use mathlib.Core.Path.{_≡_, refl, ap, sym, _∙_}
+use mathlib.Core.Path.{_≡_, refl, sym, _∙_}
 use mathlib.Core.Bool.{Bool, true, false, not, _&&_, _||_, and-false, Bool·beq}
 use mathlib.Core.List.{List, [], _∷_}
 use mathlib.Core.Logic.{⊎-elim}
-use Prim.Native.Nat.{ℕ, _+_, _-_, _/_, _%_, _^_, _<_, _≤_}
+use Prim.Native.Nat.{ℕ, _+_, _-_, _<_, _≤_}
 use native.Mathlib.Decide.{decLt}
 use native.Mathlib.Omega.{arith}
-use borrow.Author.Tests.{eq-eqb, ne-eqb, lt-ltb, le-ltb, le-leb, lt-leb, eqb-true, eqb-false, ltb-true, ltb-false, not-true, not-false}
-use lib.Bits.{bitAnd}
+use borrow.Author.Tests.{ne-eqb, lt-ltb, le-ltb, lt-leb, ltb-true, not-true, not-false}
 use lib.Dec.{T, eqb, eqb→eq, ltb, ltb→lt, leb}
-use lib.ListN.{getD}
-use Rattle.bits.specs.Bits.{choose, bit, isOn}
+use Rattle.bits.specs.Bits.{bit}
 use Rattle.bits.specs.Map.{Row, rowSays}
 use Rattle.bits.proofs.Every.{both, both-left, both-right, every-at, beq-same}
 use Rattle.bits.proofs.ChangeLaws.{and-left}
 use Rattle.bits.proofs.Match.{NoKey, or-either, last-arm}
-use Rattle.w83782d_map.specs.Map.{at, atBank, cells, rows, keptByReset, presentAt, writableAt, powerOnAt, keptAt, configuration, chassisClear, bankSelect}
+use Rattle.w83782d_map.specs.Map.{at, atBank, cells, rows, keptByReset, presentAt, writableAt, powerOnAt, keptAt, configuration, chassisClear}
 use Rattle.w83782d_map.specs.Access.{writeAnswer, storedBits}
 use Rattle.w83782d_map.specs.Parts.{inSet}
 

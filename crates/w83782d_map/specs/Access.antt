@@ -12,11 +12,8 @@ use Rattle.w83782d_map.specs.Map.{presentAt, writableAt, configuration, 
 unfoldable pub writeAnswer : ℕ → ℕ
 writeAnswer c = choose (presentAt c) (choose (eqb (writableAt c) 0) 2 0) 1
 
-unfoldable pub readAnswer : ℕ → ℕ
-readAnswer c = choose (presentAt c) 0 1
-
 -- ---- the bits that a write stores
 
--- bit 7 of 40h and of 46h is a command: it is never stored
+-- bit 7 of 40h and of 46h is a command: it is never stored. decision D-06
 abbrev pub storedBits : ℕ → ℕ
 storedBits c = choose (eqb c configuration || eqb c chassisClear) (bitAnd (writableAt c) 0b0111_1111) (writableAt c)

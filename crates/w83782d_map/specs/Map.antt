@@ -25,13 +25,13 @@ rows =
     ∷ row any 0x27 0x27 none 0x00
     -- "28h-2Ah | fan 1 to 3 count | none"
     ∷ row any 0x28 0x2A none 0x00
-    -- "2Bh-38h | high, low limit of each voltage in that order | all"
+    -- "2Bh-38h | high, low limit of each voltage in that order | all"; power-on: decision D-03
     ∷ row any 0x2B 0x38 all 0x00
     -- "39h, 3Ah | sensor 1 over limit, hysteresis | all"
     ∷ row any 0x39 0x3A all 0x00
     -- "3Bh-3Dh | fan 1 to 3 count limit | all"
     ∷ row any 0x3B 0x3D all 0x00
-    -- "40h | configuration | 7, 6, 3, 1, 0" (bit 7 is a command and not stored)
+    -- "40h | configuration | 7, 6, 3, 1, 0" (bit 7 is a command and not stored, D-06); power-on: decision D-02
     ∷ row any 0x40 0x40 0b1100_1011 0x01
     -- "41h, 42h | interrupt status | none"
     ∷ row any 0x41 0x42 none 0x00
@@ -44,13 +44,13 @@ rows =
     ∷ row any 0x47 0x47 0b1111_0000 0x50
     -- "48h | bus address | 6-0"
     ∷ row any 0x48 0x48 0b0111_1111 0x2D
-    -- "49h, 4Fh, 58h | identity | none"
+    -- "49h, 4Fh, 58h | identity | none"; decision D-05
     ∷ row any 0x49 0x49 none 0x02
     ∷ row any 0x4F 0x4F none 0x00
     ∷ row (bank 0) 0x58 0x58 none 0x30
-    -- "4Bh | fan 3 divisor 7-6, rest by section 7.15 | by section"
+    -- "4Bh | fan 3 divisor 7-6, rest by section 7.15 | by section"; decision D-04
     ∷ row any 0x4B 0x4B 0b1111_1100 0x44
-    -- "4Ah, 4Ch, 4Dh, 56h, 57h | stored | those its section names and doesn't call reserved"
+    -- "4Ah, 4Ch, 4Dh, 56h, 57h | stored | those its section names and doesn't call reserved"; decision D-04
     ∷ row any 0x4A 0x4A all 0x01
     ∷ row any 0x4C 0x4C 0b0101_1100 0x01
     ∷ row any 0x4D 0x4D all 0x15
@@ -60,7 +60,7 @@ rows =
     ∷ row any 0x4E 0x4E 0b1000_0111 0x80
     -- "59h | diodes | 6-4"
     ∷ row (bank 0) 0x59 0x59 0b0111_0000 0x70
-    -- "5Ah, 5Bh, 5Eh, 5Fh | PWM duty | all"
+    -- "5Ah, 5Bh, 5Eh, 5Fh | PWM duty | all"; decision D-05
     ∷ row (bank 0) 0x5A 0x5B all 0xFF
     ∷ row (bank 0) 0x5E 0x5F all 0xFF
     -- "5Ch | PWM clock | 6-0"
@@ -96,7 +96,7 @@ keptByReset =
     ∷ span (bank 2) 0x50 0x51
     ∷ []
 
--- ---- cells: one for each register, bank 0 20h-5Fh, then banks 1, 2 and 4 from 50h up
+-- ---- cells: one for each index, bank 0 20h-5Fh, then banks 1, 2 and 4 from 50h up
 abbrev pub cells : ℕ
 cells = 112
 

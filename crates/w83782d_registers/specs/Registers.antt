@@ -33,7 +33,7 @@ reachOf rs i = cellOf (bankOf rs) i
 unfoldable pub powerOnRegisters : List ℕ
 powerOnRegisters = tabulate cells 0 powerOnAt
 
--- "Writing 40h with bit 7 set restores all of this except 48h, the stored readings and the chassis latch (house)"
+-- "Writing 40h with bit 7 set restores all of this except 48h, the stored readings and the chassis latch (house)". decision D-08
 unfoldable pub resetRegisters : List ℕ → List ℕ
 resetRegisters rs = tabulate cells 0 (λ c. choose (keptAt c) (getD rs c 0) (powerOnAt c))
 
@@ -53,7 +53,7 @@ withChassis b chassis = bitOr (bitAnd b 0b0010_1111) (choose chassis 0b0001_0000
 abbrev pub vendorByte : ℕ → ℕ
 vendorByte b = choose (isOn b 7) 0x5C 0xA3
 
--- the byte that a read of a cell shows; what no rule names is the cell itself
+-- the byte that a read of a cell shows; what no rule names is the cell itself. decision D-07
 unfoldable pub shownOf : List ℕ → Bool → ℕ → ℕ
 shownOf rs chassis c =
     choose (eqb c configuration) (bitAnd (getD rs c 0) 0b0111_1111)  -- "40h bit 7 always reads 0"

@@ -57,7 +57,7 @@ abbrev pub puts : List ℕ → List Store → List ℕ
 puts rs [] = rs
 puts rs (w ∷ ws) = puts (set rs (w .cell) (w .byte)) ws
 
--- ---- the readings that a sample stores: "seven codes, three temperatures and three fan counts"
+-- ---- the readings that a sample stores, whole bytes: "seven codes, three temperatures and three fan counts". decision D-46
 abbrev pub voltageOf : Sample → ℕ → ℕ
 voltageOf x i = getD (x .codes) i 0
 

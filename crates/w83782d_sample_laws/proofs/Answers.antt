@@ -1,6 +1,6 @@
 -- The answer to a sample by its three tests, and the range of the half degrees by the two signs.
 -- Assumes nothing.
-use mathlib.Core.Path.{_≡_, refl, ap, ap₂, sym, _∙_}
+use mathlib.Core.Path.{_≡_, refl, ap, sym, _∙_}
 use mathlib.Core.Bool.{Bool, true, false, not, _&&_, _||_}
 use Prim.Native.Nat.{ℕ, _<_}
 use native.Mathlib.Omega.{arith}
@@ -9,11 +9,12 @@ use lib.Dec.{eqb, ltb, lit<}
 use lib.IntN.{ℤ, pos, negsuc}
 use Rattle.bits.specs.Bits.{choose}
 use Rattle.analog.specs.Temperature.{half9, holds}
+use Rattle.numbers.specs.Numbers.{outside}
 use Rattle.samples.specs.declared.Sample.{Sample}
 use Rattle.w83782d_bus.specs.Bus.{State}
-use Rattle.w83782d_store.specs.Stored.{halvesOf, isFar, sampleAnswer}
+use Rattle.w83782d_store.specs.Stored.{halvesOf, sampleAnswer}
 use Rattle.w83782d_sample.specs.Sample.{sampleOf}
-use Rattle.w83782d_sample_laws.specs.Claims.{isBeyond, isStandby, Refused}
+use Rattle.w83782d_sample_laws.specs.Claims.{isStandby, Refused}
 use Rattle.w83782d_sample_laws.proofs.Stores.{sample-answer, refused-state}
 
 -- ---- -256 to 255
@@ -28,9 +29,11 @@ or-none : (b : Bool) → b ≡ (b || false)
 or-none true = refl
 or-none false = refl
 
-pub far-beyond : (t : ℤ) → isFar t ≡ isBeyond t
-far-beyond (pos n) = not-below n
-far-beyond (negsuc n) = not-below n ∙ or-none (ltb 255 n)
+-- what nine bits hold is not outside
+not-held : (t : ℤ) → not (holds half9 t) ≡ outside t
+unfolding outside
+not-held (pos n) = not-below n
+not-held (negsuc n) = not-below n ∙ or-none (ltb 255 n)
 
 -- ---- the three tests in order
 abbrev inOrder : Bool → Bool → Bool → ℕ
@@ -61,19 +64,19 @@ below-5 false false true = lit< tt
 below-5 false false false = lit< tt
 
 module _ (s : State) (x : Sample) where
-  answered : sampleOf s x .answer ≡ inOrder (isBeyond (halvesOf x 2)) (isBeyond (halvesOf x 3)) (isStandby s)
+  answered : sampleOf s x .answer ≡ inOrder (outside (halvesOf x 2)) (outside (halvesOf x 3)) (isStandby s)
   unfolding sampleAnswer
-  answered = sample-answer s x ∙ ap₂ (λ (a b : Bool). inOrder a b (isStandby s)) (far-beyond (halvesOf x 2)) (far-beyond (halvesOf x 3))
+  answered = sample-answer s x
 
   pub below : sampleOf s x .answer < 5
-  below = rw answered (below-5 (isBeyond (halvesOf x 2)) (isBeyond (halvesOf x 3)) (isStandby s))
+  below = rw answered (below-5 (outside (halvesOf x 2)) (outside (halvesOf x 3)) (isStandby s))
 
   pub refused : Refused s x
   refused =
       record {
-        three = ap (λ (a : ℕ). eqb a 3) answered ∙ is-3 (isBeyond (halvesOf x 2)) (isBeyond (halvesOf x 3)) (isStandby s);
-        four = ap (λ (a : ℕ). eqb a 4) answered ∙ is-4 (isBeyond (halvesOf x 2)) (isBeyond (halvesOf x 3)) (isStandby s);
-        accepted = ap (λ (a : ℕ). eqb a 0) answered ∙ is-0 (isBeyond (halvesOf x 2)) (isBeyond (halvesOf x 3)) (isStandby s);
+        three = ap (λ (a : ℕ). eqb a 3) answered ∙ is-3 (outside (halvesOf x 2)) (outside (halvesOf x 3)) (isStandby s);
+        four = ap (λ (a : ℕ). eqb a 4) answered ∙ is-4 (outside (halvesOf x 2)) (outside (halvesOf x 3)) (isStandby s);
+        accepted = ap (λ (a : ℕ). eqb a 0) answered ∙ is-0 (outside (halvesOf x 2)) (outside (halvesOf x 3)) (isStandby s);
         unchanged = refused-state s x;
       }
 
@@ -83,17 +86,17 @@ none-far true b c e = absurd (omega arith)
 none-far false true c e = absurd (omega arith)
 none-far false false c e = (refl, refl)
 
-not-far : (t : ℤ) → isFar t ≡ false → holds half9 t ≡ true
+not-far : (t : ℤ) → outside t ≡ false → holds half9 t ≡ true
 not-far t e = go (holds half9 t) refl
   where
     go : (b : Bool) → holds half9 t ≡ b → holds half9 t ≡ true
     go true h = h
-    go false h = let z : true ≡ false = sym (ap not h) ∙ e in cc
+    go false h = let z : true ≡ false = sym (ap not h) ∙ not-held t ∙ e in cc
 
 module _ (s : State) (x : Sample) (a : sampleOf s x .answer ≡ 0) where
-  near : (isFar (halvesOf x 2) ≡ false) × (isFar (halvesOf x 3) ≡ false)
+  near : (outside (halvesOf x 2) ≡ false) × (outside (halvesOf x 3) ≡ false)
   unfolding sampleAnswer
-  near = none-far (isFar (halvesOf x 2)) (isFar (halvesOf x 3)) (isStandby s) (sym (sample-answer s x) ∙ a)
+  near = none-far (outside (halvesOf x 2)) (outside (halvesOf x 3)) (isStandby s) (sym (sample-answer s x) ∙ a)
 
   pub in-range-2 : holds half9 (halvesOf x 2) ≡ true
   in-range-2 = not-far (halvesOf x 2) (near .0)

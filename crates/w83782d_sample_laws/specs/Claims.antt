@@ -7,7 +7,7 @@ use mathlib.Core.Logic.{_≢_, _↔_}
 use Prim.Native.Nat.{ℕ, _+_, _<_, _≤_, max}
 use lib.Bits.{bitAnd}
 use lib.Dec.{eqb, ltb}
-use lib.IntN.{ℤ, pos, negsuc}
+use lib.IntN.{ℤ}
 use lib.ListN.{length, getD}
 use lib.Signed.{ltZ}
 use Rattle.bits.specs.Bits.{bit, isOn, choose, flagOf}
@@ -16,6 +16,7 @@ use Rattle.analog.specs.Temperature.{half8, half9, holds, signedOf, nineBits}
 use Rattle.sensor.specs.Sensor.{statusOf, outputOf}
 use Rattle.sensor.specs.declared.Status.{Status}
 use Rattle.sensor.specs.declared.Output.{Output}
+use Rattle.numbers.specs.Numbers.{outside}
 use Rattle.samples.specs.declared.Sample.{Sample}
 use Rattle.w83782d_map.specs.Map.{cells, at, bankAt, indexAt, configuration, interruptStatus1, interruptStatus2, realTimeStatus2}
 use Rattle.w83782d_registers.specs.Registers.{shownOf}
@@ -40,11 +41,8 @@ after s x = sampleOf s x .state
 -- ---- answers
 
 -- "sensor 2 or 3 outside -256 to 255 half degrees"
-abbrev pub isBeyond : ℤ → Bool
-isBeyond t = ltZ t (negsuc 255) || ltZ (pos 255) t
-
 abbrev pub isBad : Sample → Bool
-isBad x = isBeyond (halvesOf x 2) || isBeyond (halvesOf x 3)
+isBad x = outside (halvesOf x 2) || outside (halvesOf x 3)
 
 -- "sample while 40h bit 0 is 0 or bit 3 is 1"
 abbrev pub isStandby : State → Bool

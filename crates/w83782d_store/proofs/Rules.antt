@@ -1,10 +1,9 @@
 -- The definitions of Stored.antt by their cases, over plain variables: what each branch of the code knows gives what it ensures.
 -- Assumes nothing.
-use mathlib.Core.Path.{_≡_, refl, ap, sym, _∙_}
-use mathlib.Core.Bool.{Bool, true, false, not, _||_}
-use mathlib.Core.List.{List, [], _∷_}
-use Prim.Native.Nat.{ℕ, _+_, _*_, _/_, _%_}
-use native.Mathlib.Omega.{arith}
+use mathlib.Core.Path.{_≡_, ap, _∙_}
+use mathlib.Core.Bool.{Bool, true, false, not}
+use mathlib.Core.List.{List}
+use Prim.Native.Nat.{ℕ, _+_}
 use borrow.Author.Tests.{eq-eqb, ne-eqb, not-true, not-false}
 use lib.IntN.{ℤ}
 use lib.ListN.{getD, length, set}
@@ -15,12 +14,13 @@ use Rattle.fields.specs.declared.Field.{Field}
 use Rattle.fan.specs.Count.{valueOf, storedOf}
 use Rattle.fan.specs.Divisors.{divisorAt}
 use Rattle.fan.specs.declared.Divisor.{Divisor}
-use Rattle.analog.specs.Temperature.{half8, half9, codeOf, holds, halfCodeOf, halfAnswer, halfHigh, halfLow}
+use Rattle.analog.specs.Temperature.{halfCodeOf}
 use Rattle.analog.specs.declared.HalfCode.{HalfCode}
 use Rattle.analog.specs.declared.HalfCode.the-variants.{Code, OutOfRange}
 use Rattle.samples.specs.declared.Sample.{Sample}
 use Rattle.w83782d_map.specs.Map.{cells}
-use Rattle.w83782d_store.specs.Stored.{fanCount, divisorPlaces, divisorOf, halvesOf, countOf, storedReadings, isFar, isStopped, sampleAnswer}
+use Rattle.numbers.specs.Numbers.{outside}
+use Rattle.w83782d_store.specs.Stored.{fanCount, divisorPlaces, divisorOf, halvesOf, countOf, storedReadings, isStopped, sampleAnswer}
 use Rattle.w83782d_store.specs.Parts.{fieldOf, withCounts, withCodes, withHalves, storedIn}
 
 -- ---- where a divisor's bits lie
@@ -37,28 +37,7 @@ pub counted : (rs : List ℕ) (f u q : ℕ) (d : Divisor) (p : Field) → places
     → q ≡ storedOf u (valueOf (divisorOf rs f))
 counted rs f u q d p e g h = h ∙ ap (λ (x : Divisor). storedOf u (valueOf x)) (g ∙ ap (divisorAt rs) e)
 
--- ---- temperatures out of range
-module _ (z : ℤ) (c : HalfCode) (e : c ≡ halfCodeOf z) where
-  pub near : (h l : ℕ) → c ≡ Code h l → false ≡ isFar z
-  unfolding halfCodeOf
-  near h l f = go (holds half9 z) refl
-    where
-      go : (b : Bool) → holds half9 z ≡ b → false ≡ isFar z
-      go true k = simp k
-      go false k =
-          let q : c ≡ OutOfRange = e ∙ rw k in
-          absurd (omega (arith, ap halfAnswer (sym f ∙ q)))
-
-  pub beyond : c ≡ OutOfRange → true ≡ isFar z
-  unfolding halfCodeOf
-  beyond f = go (holds half9 z) refl
-    where
-      go : (b : Bool) → holds half9 z ≡ b → true ≡ isFar z
-      go true k =
-          let q : c ≡ Code (codeOf half9 z / 2) (codeOf half9 z % 2 * 128) = e ∙ rw k in
-          absurd (omega (arith, ap halfAnswer (sym f ∙ q)))
-      go false k = simp k
-
+-- ---- stopped samples
 pub not-monitoring : (c : ℕ) (r : Bool) → r ≡ isOn c 0 → not r ≡ true → true ≡ isStopped c
 not-monitoring c r e t = simp (← e, not-true r t)
 
@@ -66,12 +45,12 @@ pub bit-3 : (c : ℕ) (r q : Bool) → r ≡ isOn c 0 → not r ≡ false → q 
 bit-3 c r q e t f = simp (← e, not-false r t, ← f)
 
 -- ---- the answer
-module _ (rs : List ℕ) (x : Sample) (b : Bool) (e : b ≡ isFar (halvesOf x 2)) where
+module _ (rs : List ℕ) (x : Sample) (b : Bool) (e : b ≡ outside (halvesOf x 2)) where
   pub answer-2 : b ≡ true → 3 ≡ sampleAnswer rs x
   unfolding sampleAnswer
   answer-2 t = simp (← e, t)
 
-  module _ (n : b ≡ false) (d : Bool) (f : d ≡ isFar (halvesOf x 3)) where
+  module _ (n : b ≡ false) (d : Bool) (f : d ≡ outside (halvesOf x 3)) where
     pub answer-3 : d ≡ true → 3 ≡ sampleAnswer rs x
     unfolding sampleAnswer
     answer-3 t = simp (← e, n, ← f, t)

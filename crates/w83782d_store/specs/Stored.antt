@@ -13,7 +13,8 @@ use Rattle.fan.specs.Count.{valueOf, storedOf}
 use Rattle.fan.specs.Divisors.{divisorAt}
 use Rattle.fan.specs.declared.Divisor.{Divisor}
 use Rattle.fan.specs.declared.Undivided.{Undivided}
-use Rattle.analog.specs.Temperature.{half8, half9, codeOf, holds, halfCodeOf, halfHigh, halfLow}
+use Rattle.analog.specs.Temperature.{half8, codeOf, halfCodeOf, halfHigh, halfLow}
+use Rattle.numbers.specs.Numbers.{outside}
 use Rattle.samples.specs.declared.Sample.{Sample}
 use Rattle.w83782d_map.specs.Map.{at, atBank, configuration}
 
@@ -94,16 +95,13 @@ storedReadings rs x = puts rs (readings rs x)
 
 -- ---- the refusals, in order: "3 before 4"
 
--- 3: "sample with sensor 2 or 3 outside -256 to 255 half degrees"
-abbrev pub isFar : ℤ → Bool
-isFar t = not (holds half9 t)
-
 -- 4: "sample while 40h bit 0 is 0 or bit 3 is 1"
 abbrev pub isStopped : ℕ → Bool
 isStopped c = not (isOn c 0) || isOn c 3
 
+-- and 3: "sample with sensor 2 or 3 outside -256 to 255 half degrees"
 unfoldable pub sampleAnswer : List ℕ → Sample → ℕ
 sampleAnswer rs x =
-    choose (isFar (halvesOf x 2)) 3
-    (choose (isFar (halvesOf x 3)) 3
+    choose (outside (halvesOf x 2)) 3
+    (choose (outside (halvesOf x 3)) 3
     (choose (isStopped (getD rs configuration 0)) 4 0))

@@ -6,7 +6,7 @@ ghost use lib.ListN.{length};
 ghost use Rattle.fields.specs.Fields.{placesOf};
 ghost use Rattle.fan.specs.Count.{valueOf, storedOf};
 ghost use Rattle.w83782d_map.specs.Map.{cells};
-ghost use Rattle.w83782d_store.specs.Stored.{divisorPlaces, divisorOf, isFar, isStopped, sampleAnswer};
+ghost use Rattle.w83782d_store.specs.Stored.{divisorPlaces, divisorOf, isStopped, sampleAnswer};
 ghost use Rattle.w83782d_store.specs.Parts.{fieldOf, withCounts, withCodes, withHalves, storedIn};
 use analog::HalfCode;
 use analog::half_code;
@@ -19,6 +19,7 @@ use fan::Undivided;
 use fan::divide;
 use fields::Field;
 use fields::Place;
+use numbers::is_outside;
 use samples::Sample;
 use w83782d_map::BANK_1;
 use w83782d_map::BANK_2;
@@ -147,17 +148,6 @@ pub fn store(s: &mut [u8], x: Sample)
 
 // ---- The answer
 
-// Outside -256 to 255 half degrees.
-fn far(halves: i16) -> bool
-    ensures { λ r. ⌜ r ≡ isFar halves ⌝ }
-{
-    let code = half_code(halves);
-    match code {
-        HalfCode::Code { high: _, low: _ } => false,
-        HalfCode::OutOfRange => true,
-    }
-}
-
 fn stopped(configuration: u8) -> bool
     ensures { λ r. ⌜ r ≡ isStopped configuration ⌝ }
 {
@@ -171,10 +161,10 @@ fn stopped(configuration: u8) -> bool
 pub fn answer_to(s: &[u8], x: Sample) -> u8
     ensures { λ r. ⌜ r ≡ sampleAnswer (now (s .entry)) x ⌝ }
 {
-    if far(x.remote[0]) {
+    if is_outside(x.remote[0]) {
         return BAD_TEMPERATURE;
     }
-    if far(x.remote[1]) {
+    if is_outside(x.remote[1]) {
         return BAD_TEMPERATURE;
     }
     if stopped(cell(s, CONFIGURATION)) {

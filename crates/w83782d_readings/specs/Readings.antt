@@ -1,9 +1,9 @@
 -- Readings of the stored values (document 01, "Readings").
-use mathlib.Core.Bool.{_||_}
+use mathlib.Core.Bool.{Bool, _||_}
 use mathlib.Core.List.{List}
 use Prim.Native.Nat.{ℕ, _+_}
 use lib.Dec.{ltb, eqb}
-use lib.IntN.{ℤ}
+use lib.IntN.{ℤ, pos}
 use lib.ListN.{getD}
 use Rattle.bits.specs.Bits.{choose}
 use Rattle.fan.specs.Count.{valueOf}
@@ -21,6 +21,30 @@ use Rattle.w83782d_readings.specs.declared.Temperature.the-variants as t
 use Rattle.w83782d_readings.specs.declared.Duty.{Duty}
 use Rattle.w83782d_readings.specs.declared.Duty.the-variants as duty
 
+-- the number of the answer table; a sensor other than 1 to 3 is refused as 7, as a fan is (open point)
+abbrev pub temperatureAnswer : Temperature → ℕ
+temperatureAnswer (temperature.HalfDegrees z) = 0
+temperatureAnswer temperature.Refused = 7
+
+-- the half degrees that are read; refused: "reading 0"
+abbrev pub temperatureValue : Temperature → ℤ
+temperatureValue (temperature.HalfDegrees z) = z
+temperatureValue temperature.Refused = pos 0
+
+-- the number of the answer table; a PWM output other than 1 to 4 is refused as 7. decision D-24
+abbrev pub dutyAnswer : Duty → ℕ
+dutyAnswer (duty.Parts n) = 0
+dutyAnswer duty.Refused = 7
+
+-- the parts that are read; refused: "reading 0"
+abbrev pub dutyValue : Duty → ℕ
+dutyValue (duty.Parts n) = n
+dutyValue duty.Refused = 0
+
+-- "not 1 to 3", or to another last one
+abbrev pub isBeyond : ℕ → ℕ → Bool
+isBeyond last n = ltb n 1 || ltb last n
+
 -- the millivolts of the code stored for a channel
 abbrev pub voltageOf : List ℕ → ℕ → ℕ → ℕ → Reading
 voltageOf rs channel r5 r6 = millivoltsOf channel (getD rs channel 0) r5 r6
@@ -28,7 +52,7 @@ voltageOf rs channel r5 r6 = millivoltsOf channel (getD rs channel 0) r5 r6
 -- "Speed takes the stored count and the divisor now set"; a fan other than 1 to 3 is answered 7
 unfoldable pub speedOf : List ℕ → ℕ → Speed
 speedOf rs f =
-    choose (ltb f 1 || ltb 3 f) speed.Refused
+    choose (isBeyond 3 f) speed.Refused
     (fan.speedOf (getD rs (fanCount f) 0) (valueOf (divisorOf rs f)))
 
 -- half degrees of nine bits; sensor 1's whole degrees are eight bits, and no half below them

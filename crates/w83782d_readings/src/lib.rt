@@ -4,6 +4,7 @@ ghost use mathlib.Core.Path.{_≡_};
 ghost use Prim.Native.Nat.{_≤_};
 ghost use Rattle.w83782d_readings.specs.Outputs.{smiOf, standingAlarms};
 ghost use Rattle.w83782d_readings.specs.Readings.{voltageOf, speedOf, temperatureOf, dutyOf};
+ghost use Rattle.w83782d_readings.specs.Claims.{ReadingClaims};
 use analog::half_degrees;
 use analog::pwm_parts;
 use bits::Bit;
@@ -98,7 +99,8 @@ pub fn voltage(s: &[u8], channel: u8, r5: u32, r6: u32) -> Reading
 
 // The speed of a fan, 1 to 3, by its stored count and the divisor now set.
 pub fn speed(s: &[u8], fan: u8) -> Speed
-    ensures { λ r. ⌜ r ≡ speedOf (now (s .entry)) fan ⌝ }
+    ensures equation { λ r. ⌜ r ≡ speedOf (now (s .entry)) fan ⌝ }
+    ensures claims { λ r. ⌜ ReadingClaims ⌝ }
 {
     if fan < 1 {
         return Speed::Refused;
@@ -113,7 +115,8 @@ pub fn speed(s: &[u8], fan: u8) -> Speed
 
 // The temperature of a sensor, 1 to 3, in half degrees.
 pub fn temperature_of(s: &[u8], sensor: u8) -> Temperature
-    ensures { λ r. ⌜ r ≡ temperatureOf (now (s .entry)) sensor ⌝ }
+    ensures equation { λ r. ⌜ r ≡ temperatureOf (now (s .entry)) sensor ⌝ }
+    ensures claims { λ r. ⌜ ReadingClaims ⌝ }
 {
     match sensor {
         1 => Temperature::HalfDegrees(half_degrees(cell(s, SENSOR_1), 0)),
@@ -125,7 +128,8 @@ pub fn temperature_of(s: &[u8], sensor: u8) -> Temperature
 
 // How many of 256 parts PWM output 1 to 4 is on.
 pub fn duty_of(s: &[u8], output: u8) -> Duty
-    ensures { λ r. ⌜ r ≡ dutyOf (now (s .entry)) output ⌝ }
+    ensures equation { λ r. ⌜ r ≡ dutyOf (now (s .entry)) output ⌝ }
+    ensures claims { λ r. ⌜ ReadingClaims ⌝ }
 {
     match output {
         1 => Duty::Parts(pwm_parts(cell(s, PWM_DUTY_1))),

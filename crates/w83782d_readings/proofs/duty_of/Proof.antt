@@ -1,4 +1,5 @@
 use borrow.Author.Needs.{needs}
+use Rattle.w83782d_readings.proofs.Answers.{reading-claims}
 use Rattle.w83782d_readings.proofs.Looks.{duty-1, duty-2, duty-3, duty-4, no-duty}
 use Rattle.w83782d_readings.proofs.duty_of.Statement.{statement}
 use Rattle.w83782d_readings.proofs.duty_of.Tie as tie
@@ -28,19 +29,19 @@ pwm-parts-requires-4 : tie.Need-pwm-parts-requires-4
 pwm-parts-requires-4 c κs = search needs
 
 returns : tie.Need-returns
-returns c = search (needs, duty-1)
+returns c = (search (needs, duty-1), reading-claims)
 
 returns-2 : tie.Need-returns-2
-returns-2 c = search (needs, duty-2)
+returns-2 c = (search (needs, duty-2), reading-claims)
 
 returns-3 : tie.Need-returns-3
-returns-3 c = search (needs, duty-3)
+returns-3 c = (search (needs, duty-3), reading-claims)
 
 returns-4 : tie.Need-returns-4
-returns-4 c = search (needs, duty-4)
+returns-4 c = (search (needs, duty-4), reading-claims)
 
 returns-5 : tie.Need-returns-5
-returns-5 c = search (needs, no-duty)
+returns-5 c = (search (needs, no-duty), reading-claims)
 
 pub duty-of-spec : {M : Type 1} → statement M
 duty-of-spec =

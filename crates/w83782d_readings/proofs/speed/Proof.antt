@@ -1,13 +1,14 @@
 use borrow.Author.Needs.{needs}
+use Rattle.w83782d_readings.proofs.Answers.{reading-claims}
 use Rattle.w83782d_readings.proofs.Looks.{no-fan-0, no-fan-4, fan-read}
 use Rattle.w83782d_readings.proofs.speed.Statement.{statement}
 use Rattle.w83782d_readings.proofs.speed.Tie as tie
 
 returns : tie.Need-returns
-returns c = search (needs, no-fan-0)
+returns c = (search (needs, no-fan-0), reading-claims)
 
 returns-2 : tie.Need-returns-2
-returns-2 c = search (needs, no-fan-4)
+returns-2 c = (search (needs, no-fan-4), reading-claims)
 
 divisor-field-requires : tie.Need-divisor-field-requires
 divisor-field-requires c κs = search needs
@@ -25,7 +26,7 @@ speed-requires : tie.Need-speed-requires
 speed-requires c κs = search needs
 
 returns-3 : tie.Need-returns-3
-returns-3 c = search (needs, fan-read)
+returns-3 c = (search (needs, fan-read), reading-claims)
 
 pub speed-spec : {M : Type 1} → statement M
 speed-spec =

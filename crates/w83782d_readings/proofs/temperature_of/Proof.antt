@@ -3,6 +3,7 @@ use mathlib.Core.Path.{ap, _∙_}
 use mir.Syntax.{w16}
 use mir.ValLaws.{toZ-ofZ}
 use Rattle.w83782d_readings.specs.declared.Temperature.the-variants.{HalfDegrees}
+use Rattle.w83782d_readings.proofs.Answers.{reading-claims}
 use Rattle.w83782d_readings.proofs.Looks.{sensor-1, sensor-2, sensor-3, no-sensor}
 use Rattle.w83782d_readings.proofs.temperature_of.Statement.{statement}
 use Rattle.w83782d_readings.proofs.temperature_of.Tie as tie
@@ -38,16 +39,16 @@ half-degrees-requires-3 : tie.Need-half-degrees-requires-3
 half-degrees-requires-3 c κs = search needs
 
 returns : tie.Need-returns
-returns c = ap HalfDegrees (toZ-ofZ w16 (c .half-degrees .result) (record { sfits = c .half-degrees .ok })) ∙ search (needs, sensor-1)
+returns c = (ap HalfDegrees (toZ-ofZ w16 (c .half-degrees .result) (record { sfits = c .half-degrees .ok })) ∙ search (needs, sensor-1), reading-claims)
 
 returns-2 : tie.Need-returns-2
-returns-2 c = ap HalfDegrees (toZ-ofZ w16 (c .half-degrees2 .result) (record { sfits = c .half-degrees2 .ok })) ∙ search (needs, sensor-2)
+returns-2 c = (ap HalfDegrees (toZ-ofZ w16 (c .half-degrees2 .result) (record { sfits = c .half-degrees2 .ok })) ∙ search (needs, sensor-2), reading-claims)
 
 returns-3 : tie.Need-returns-3
-returns-3 c = ap HalfDegrees (toZ-ofZ w16 (c .half-degrees3 .result) (record { sfits = c .half-degrees3 .ok })) ∙ search (needs, sensor-3)
+returns-3 c = (ap HalfDegrees (toZ-ofZ w16 (c .half-degrees3 .result) (record { sfits = c .half-degrees3 .ok })) ∙ search (needs, sensor-3), reading-claims)
 
 returns-4 : tie.Need-returns-4
-returns-4 c = search (needs, no-sensor)
+returns-4 c = (search (needs, no-sensor), reading-claims)
 
 pub temperature-of-spec : {M : Type 1} → statement M
 temperature-of-spec =

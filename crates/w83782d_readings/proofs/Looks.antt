@@ -27,7 +27,7 @@ use Rattle.analog.specs.Pwm.{pwmParts}
 use Rattle.voltages.specs.declared.Reading.{Reading}
 use Rattle.w83782d_map.specs.Map.{configuration, interruptStatus1, interruptStatus2}
 use Rattle.w83782d_registers.specs.Registers.{withChassis}
-use Rattle.w83782d_store.specs.Stored.{fanCount, divisorPlaces}
+use Rattle.w83782d_store.specs.Stored.{voltage, fanCount, divisorPlaces}
 use Rattle.w83782d_readings.specs.declared.Temperature.the-variants as temperature
 use Rattle.w83782d_readings.specs.declared.Duty.the-variants as duty
 use Rattle.w83782d_readings.specs.Outputs.{smiMask1, smiMask2, smiOf, standingAlarms}
@@ -58,7 +58,7 @@ unfolding standingAlarms
 alarms-counted rs chassis x y z ex ey ez = rw (ez, ey, ex)
 
 -- ---- readings
-pub voltage-read : (rs : List ℕ) (channel code r5 r6 : ℕ) (m : Reading) → code ≡ getD rs channel 0 → (m ≡ millivoltsOf channel code r5 r6) × Answers → m ≡ voltageOf rs channel r5 r6
+pub voltage-read : (rs : List ℕ) (channel code r5 r6 : ℕ) (m : Reading) → code ≡ getD rs (voltage channel) 0 → (m ≡ millivoltsOf channel code r5 r6) × Answers → m ≡ voltageOf rs channel r5 r6
 voltage-read rs channel code r5 r6 m e f = f .0 ∙ ap (λ (c : ℕ). millivoltsOf channel c r5 r6) e
 
 module _ (rs : List ℕ) (f : ℕ) where

@@ -15,7 +15,7 @@ use Rattle.analog.specs.Temperature.{half9, signedOf, nineBits}
 use Rattle.analog.specs.Pwm.{pwmParts}
 use Rattle.voltages.specs.declared.Reading.{Reading}
 use Rattle.w83782d_map.specs.Map.{at}
-use Rattle.w83782d_store.specs.Stored.{sensor1Value, bankCell, fanCount, divisorOf}
+use Rattle.w83782d_store.specs.Stored.{voltage, sensor1Value, bankCell, fanCount, divisorOf}
 use Rattle.w83782d_readings.specs.declared.Temperature.{Temperature}
 use Rattle.w83782d_readings.specs.declared.Temperature.the-variants as temperature
 use Rattle.w83782d_readings.specs.declared.Duty.{Duty}
@@ -47,7 +47,7 @@ isBeyond last n = ltb n 1 || ltb last n
 
 -- the millivolts of the code stored for a channel
 abbrev pub voltageOf : List ℕ → ℕ → ℕ → ℕ → Reading
-voltageOf rs channel r5 r6 = millivoltsOf channel (getD rs channel 0) r5 r6
+voltageOf rs channel r5 r6 = millivoltsOf channel (getD rs (voltage channel) 0) r5 r6
 
 -- "Speed takes the stored count and the divisor now set"; a fan other than 1 to 3 is answered 7
 unfoldable pub speedOf : List ℕ → ℕ → Speed

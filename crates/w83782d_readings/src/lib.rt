@@ -15,18 +15,20 @@ use fan::Divisor;
 use fan::Speed;
 use voltages::Reading;
 use voltages::millivolts;
+use w83782d_map::BANK_1;
+use w83782d_map::BANK_2;
+use w83782d_map::CONFIGURATION;
+use w83782d_map::INTERRUPT_STATUS_1;
+use w83782d_map::INTERRUPT_STATUS_2;
 use w83782d_registers::with_chassis;
 use w83782d_store::divisor_field;
 
+const VCOREA: usize = 0x20 - 0x20;
+
 const SENSOR_1: usize = 0x27 - 0x20;
 
+// The cell before fan 1's count.
 const COUNTS: usize = 0x27 - 0x20;
-
-const CONFIGURATION: usize = 0x40 - 0x20;
-
-const INTERRUPT_STATUS_1: usize = 0x41 - 0x20;
-
-const INTERRUPT_STATUS_2: usize = 0x42 - 0x20;
 
 const SMI_MASK_1: usize = 0x43 - 0x20;
 
@@ -40,9 +42,9 @@ const PWM_DUTY_3: usize = 0x5e - 0x20;
 
 const PWM_DUTY_4: usize = 0x5f - 0x20;
 
-const SENSOR_2: usize = 64;
+const SENSOR_2: usize = BANK_1;
 
-const SENSOR_3: usize = 80;
+const SENSOR_3: usize = BANK_2;
 
 // What reading a temperature answers.
 pub enum Temperature {
@@ -94,7 +96,7 @@ pub fn standing_alarms(s: &[u8], chassis: bool) -> u32
 pub fn voltage(s: &[u8], channel: u8, r5: u32, r6: u32) -> Reading
     ensures { λ r. ⌜ r ≡ voltageOf (now (s .entry)) channel r5 r6 ⌝ }
 {
-    millivolts(channel, cell(s, channel as usize), r5, r6)
+    millivolts(channel, cell(s, VCOREA + channel as usize), r5, r6)
 }
 
 // The speed of a fan, 1 to 3, by its stored count and the divisor now set.

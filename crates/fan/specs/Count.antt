@@ -50,6 +50,6 @@ storedOf u d = min 255 (u / d)
 abbrev pub countOf : ℕ → ℕ → ℕ
 countOf a b = choose (eqb a 0) 4294967295 (min 4294967295 (perMinute * b / a))
 
--- "count above its limit"
+-- "count above its limit", of the stored count. decision D-41
 abbrev pub overLimit : ℕ → ℕ → Bool
 overLimit count limit = ltb limit count

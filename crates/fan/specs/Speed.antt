@@ -7,7 +7,7 @@ use Rattle.fan.specs.declared.Speed.{Speed}
 use Rattle.fan.specs.declared.Speed.the-variants.{Rpm, TooFast, TooSlow, Refused}
 use Rattle.fan.specs.Count.{perMinute}
 
--- the number of the answer table: "7: fan not 1 to 3"; "too fast" and "too slow" are accepted
+-- the number of the answer table: "7: fan not 1 to 3"; "too fast" and "too slow" are accepted. decision D-47
 abbrev pub speedAnswer : Speed → ℕ
 speedAnswer (Rpm n) = 0
 speedAnswer TooFast = 0

@@ -23,7 +23,7 @@ status1 rs = getD rs interruptStatus1 0
 abbrev pub status2 : List ℕ → Bool → ℕ
 status2 rs chassis = withChassis (getD rs interruptStatus2 0) chassis
 
--- the bits of a status byte that its mask leaves: "A mask bit at 1 keeps its status bit from SMI" (7.6, 7.7)
+-- the bits of a status byte that its mask leaves: a mask bit at 1 keeps its status bit from SMI (7.6, 7.7). decision D-40
 abbrev pub unmasked : ℕ → ℕ → ℕ
 unmasked status mask = bitAnd status (255 - mask)
 

@@ -5,7 +5,7 @@ ghost use Rattle.w83782d_bus_laws.specs.Claims.{WriteClaims, ReadClaims, Opened
 ghost use Rattle.w83782d_sample_laws.specs.Claims.{SampleClaims};
 ghost use Rattle.w83782d_settings.specs.Claims.{PlanClaims};
 ghost use Rattle.w83782d_alarm.specs.Alarm.{AlarmRings};
-ghost use Rattle.w83782d_readings.specs.Outputs.{smiOf, standingAlarms};
+ghost use Rattle.w83782d_outputs.specs.Outputs.{smiOf, standingAlarms};
 ghost use Rattle.w83782d_readings.specs.Readings.{voltageOf, speedOf, temperatureOf, dutyOf};
 ghost use Rattle.w83782d.specs.Monitor.{stateOf, powerOnOf, writeOf, readOf, sampleOf, openedOf, setPlanOf, applyOf, ovtOf};
 ghost use Rattle.w83782d.specs.Alarm.{MonitorCalls};
@@ -176,7 +176,7 @@ impl Monitor {
     {
         let registers = self.registers;
         let latches = self.latches;
-        w83782d_readings::smi(&registers, latches.chassis)
+        w83782d_outputs::smi(&registers, latches.chassis)
     }
 
     // The number of standing alarms.
@@ -185,7 +185,7 @@ impl Monitor {
     {
         let registers = self.registers;
         let latches = self.latches;
-        w83782d_readings::standing_alarms(&registers, latches.chassis)
+        w83782d_outputs::standing_alarms(&registers, latches.chassis)
     }
 
     // Whether the OVT output of sensor 2 or 3 is asserted; no other sensor has one.

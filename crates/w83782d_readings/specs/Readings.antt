@@ -21,7 +21,7 @@ use Rattle.w83782d_readings.specs.declared.Temperature.the-variants as t
 use Rattle.w83782d_readings.specs.declared.Duty.{Duty}
 use Rattle.w83782d_readings.specs.declared.Duty.the-variants as duty
 
--- the number of the answer table; a sensor other than 1 to 3 is refused as 7, as a fan is (open point)
+-- the number of the answer table; a sensor other than 1 to 3 is refused as 7, as a fan is. decision D-48
 abbrev pub temperatureAnswer : Temperature → ℕ
 temperatureAnswer (temperature.HalfDegrees z) = 0
 temperatureAnswer temperature.Refused = 7

@@ -1,15 +1,11 @@
-// What the monitor says besides its registers: SMI, standing alarms, and the readings of the stored values.
+// The readings of the stored values: millivolts, speeds, temperatures, PWM duties.
 // Each looks at the registers' slice and changes nothing; a cell beyond a short slice counts as 0.
 ghost use mathlib.Core.Path.{_≡_};
-ghost use Prim.Native.Nat.{_≤_};
-ghost use Rattle.w83782d_readings.specs.Outputs.{smiOf, standingAlarms};
 ghost use Rattle.w83782d_readings.specs.Readings.{voltageOf, speedOf, temperatureOf, dutyOf};
 ghost use Rattle.w83782d_readings.specs.Claims.{ReadingClaims};
 use analog::half_degrees;
 use analog::pwm_parts;
-use bits::Bit;
 use bits::cell;
-use bits::is_on;
 use fan::Divided;
 use fan::Divisor;
 use fan::Speed;
@@ -17,10 +13,6 @@ use voltages::Reading;
 use voltages::millivolts;
 use w83782d_map::BANK_1;
 use w83782d_map::BANK_2;
-use w83782d_map::CONFIGURATION;
-use w83782d_map::INTERRUPT_STATUS_1;
-use w83782d_map::INTERRUPT_STATUS_2;
-use w83782d_registers::with_chassis;
 use w83782d_store::divisor_field;
 
 const VCOREA: usize = 0x20 - 0x20;
@@ -29,10 +21,6 @@ const SENSOR_1: usize = 0x27 - 0x20;
 
 // The cell before fan 1's count.
 const COUNTS: usize = 0x27 - 0x20;
-
-const SMI_MASK_1: usize = 0x43 - 0x20;
-
-const SMI_MASK_2: usize = 0x44 - 0x20;
 
 const PWM_DUTY_2: usize = 0x5a - 0x20;
 
@@ -61,36 +49,6 @@ pub enum Duty {
     // Answer 7: there is no such output.
     Refused,
 }
-
-// ---- SMI and standing alarms, from the bytes that reads show
-
-// Whether SMI is asserted.
-pub fn smi(s: &[u8], chassis: bool) -> bool
-    ensures { λ r. ⌜ r ≡ smiOf (now (s .entry)) chassis ⌝ }
-{
-    let configuration = cell(s, CONFIGURATION);
-    if !is_on(configuration, Bit::B1) {
-        return false;
-    }
-    if is_on(configuration, Bit::B3) {
-        return false;
-    }
-    let first = cell(s, INTERRUPT_STATUS_1) & !cell(s, SMI_MASK_1);
-    let second = with_chassis(cell(s, INTERRUPT_STATUS_2), chassis) & !cell(s, SMI_MASK_2);
-    (first | second) != 0
-}
-
-// The number of standing alarms: the set bits of 41h and 42h.
-pub fn standing_alarms(s: &[u8], chassis: bool) -> u32
-    ensures count { λ r. ⌜ r ≡ standingAlarms (now (s .entry)) chassis ⌝ }
-    ensures few { λ r. ⌜ r ≤ 16 ⌝ }
-{
-    let first = cell(s, INTERRUPT_STATUS_1);
-    let second = with_chassis(cell(s, INTERRUPT_STATUS_2), chassis);
-    u8::count_ones(first) + u8::count_ones(second)
-}
-
-// ---- Readings
 
 // The millivolts of a voltage channel, 0 to 6, with the resistors of the negative rails.
 pub fn voltage(s: &[u8], channel: u8, r5: u32, r6: u32) -> Reading

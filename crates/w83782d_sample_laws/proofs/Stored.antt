@@ -30,7 +30,7 @@ use Rattle.w83782d_store.specs.Stored.{Store, puts, none, voltage, fanCount, se
 use Rattle.w83782d_conditions.specs.Conditions.{highLimit, lowLimit, fanLimit, sensor1Over, sensor1Hysteresis, ovtProperty, isOutside, isAbove, isBelow, isSlow, statusMode, outputMode}
 use Rattle.w83782d_sample.specs.Sample.{statusAt, outputAt, latchedBy, verdicts, judgedRegisters, steppedLatches, sampleOf}
 use Rattle.w83782d_sample.specs.Sample.Source.{sensor}
-use Rattle.w83782d_readings.specs.Outputs.{smiMask1, smiMask2, smiOf}
+use Rattle.w83782d_outputs.specs.Outputs.{smiMask1, smiMask2, smiOf}
 use Rattle.w83782d_sample_laws.specs.Claims.{Whole, cellIn, after, touched, ruleless, Alike, StoredOnly}
 use Rattle.w83782d_sample_laws.proofs.Stores.{sample-answer, accepted-state, refused-state, frame}
 

@@ -1,5 +1,5 @@
 -- What is claimed of a sample, from every state of the monitor and for every sample, refused or not (document 01, "What a sample does").
--- The definitions are those that the contracts cite (w83782d_conditions, Conditions.antt; w83782d_sample, Sample.antt; w83782d_readings, Outputs.antt).
+-- The definitions are those that the contracts cite (w83782d_conditions, Conditions.antt; w83782d_sample, Sample.antt; w83782d_outputs, Outputs.antt).
 use mathlib.Core.Path.{_≡_}
 use mathlib.Core.Bool.{Bool, true, false, not, _&&_, _||_}
 use mathlib.Core.List.{List, [], _∷_, map}
@@ -25,7 +25,7 @@ use Rattle.w83782d_store.specs.Stored.{voltage, fanCount, sensor1Value, bankCel
 use Rattle.w83782d_conditions.specs.Conditions.{highLimit, lowLimit, fanLimit, sensor1Over, sensor1Hysteresis, ovtProperty, statusMode, outputMode}
 use Rattle.w83782d_sample.specs.Sample.{Source, firstByte, secondByte, realTimeStatus1, markOf, remoteOf, sampleOf}
 use Rattle.w83782d_sample.specs.Sample.Source.{rail, sensor, fan, chassis}
-use Rattle.w83782d_readings.specs.Outputs.{smiMask1, smiMask2, smiOf}
+use Rattle.w83782d_outputs.specs.Outputs.{smiMask1, smiMask2, smiOf}
 
 -- ---- every state of the monitor: 112 cells, each a byte, and any latches
 pub record Whole (s : State) : Type 0 where

@@ -1,9 +1,9 @@
 use borrow.Author.Needs.{needs}
 use native.Mathlib.Omega.{arith}
 use lib.Count.{ones-le}
-use Rattle.w83782d_readings.proofs.Looks.{alarms-counted, alarms-few}
-use Rattle.w83782d_readings.proofs.standing_alarms.Statement.{statement}
-use Rattle.w83782d_readings.proofs.standing_alarms.Tie as tie
+use Rattle.w83782d_outputs.proofs.Looks.{alarms-counted, alarms-few}
+use Rattle.w83782d_outputs.proofs.standing_alarms.Statement.{statement}
+use Rattle.w83782d_outputs.proofs.standing_alarms.Tie as tie
 
 cell-requires : tie.Need-cell-requires
 cell-requires c κs = search needs

@@ -1,7 +1,7 @@
 use borrow.Author.Needs.{needs}
-use Rattle.w83782d_readings.proofs.Looks.{smi-disabled, smi-cleared, smi-told}
-use Rattle.w83782d_readings.proofs.smi.Statement.{statement}
-use Rattle.w83782d_readings.proofs.smi.Tie as tie
+use Rattle.w83782d_outputs.proofs.Looks.{smi-disabled, smi-cleared, smi-told}
+use Rattle.w83782d_outputs.proofs.smi.Statement.{statement}
+use Rattle.w83782d_outputs.proofs.smi.Tie as tie
 
 cell-requires : tie.Need-cell-requires
 cell-requires c κs = search needs

@@ -1,0 +1,42 @@
+// What the monitor says besides its registers: SMI and the number of standing alarms, from the bytes that reads show.
+// Each looks at the registers' slice and changes nothing; a cell beyond a short slice counts as 0.
+ghost use mathlib.Core.Path.{_≡_};
+ghost use Prim.Native.Nat.{_≤_};
+ghost use Rattle.w83782d_outputs.specs.Outputs.{smiOf, standingAlarms};
+use bits::Bit;
+use bits::cell;
+use bits::is_on;
+use w83782d_map::CONFIGURATION;
+use w83782d_map::INTERRUPT_STATUS_1;
+use w83782d_map::INTERRUPT_STATUS_2;
+use w83782d_registers::with_chassis;
+
+const SMI_MASK_1: usize = 0x43 - 0x20;
+
+const SMI_MASK_2: usize = 0x44 - 0x20;
+
+// Whether SMI is asserted.
+pub fn smi(s: &[u8], chassis: bool) -> bool
+    ensures { λ r. ⌜ r ≡ smiOf (now (s .entry)) chassis ⌝ }
+{
+    let configuration = cell(s, CONFIGURATION);
+    if !is_on(configuration, Bit::B1) {
+        return false;
+    }
+    if is_on(configuration, Bit::B3) {
+        return false;
+    }
+    let first = cell(s, INTERRUPT_STATUS_1) & !cell(s, SMI_MASK_1);
+    let second = with_chassis(cell(s, INTERRUPT_STATUS_2), chassis) & !cell(s, SMI_MASK_2);
+    (first | second) != 0
+}
+
+// The number of standing alarms: the set bits of 41h and 42h.
+pub fn standing_alarms(s: &[u8], chassis: bool) -> u32
+    ensures count { λ r. ⌜ r ≡ standingAlarms (now (s .entry)) chassis ⌝ }
+    ensures few { λ r. ⌜ r ≤ 16 ⌝ }
+{
+    let first = cell(s, INTERRUPT_STATUS_1);
+    let second = with_chassis(cell(s, INTERRUPT_STATUS_2), chassis);
+    u8::count_ones(first) + u8::count_ones(second)
+}

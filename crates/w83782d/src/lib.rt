@@ -43,6 +43,7 @@ pub struct Shown {
 }
 
 impl Monitor {
+    // As power-on leaves it.
     pub fn power_on() -> Self
         ensures { λ r. ⌜ r ≡ powerOnOf ⌝ }
     {

@@ -31,6 +31,7 @@ pub struct Latches {
 }
 
 impl Latches {
+    // As power-on leaves them: closed, armed, released.
     pub fn power_on() -> Self
         ensures { λ r. ⌜ r ≡ powerOnLatches ⌝ }
     {

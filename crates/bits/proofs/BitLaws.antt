@@ -1,12 +1,12 @@
 -- What masks do to the bits of a byte: each mask operation, bit by bit, then a merge.
 -- Assumes nothing.
-use mathlib.Core.Path.{_≡_, _∙_, ap, sym, refl}
+use mathlib.Core.Path.{_≡_, _∙_, ap, refl}
 use mathlib.Core.Bool.{Bool, true, false}
-use Prim.Native.Nat.{ℕ, zero, suc, _+_, _-_, _*_, _/_, _%_, _^_, _<_, min, max}
+use Prim.Native.Nat.{ℕ, _+_, _-_, _*_, _/_, _%_, _^_, _<_, min, max}
 use native.Mathlib.Nat.{mod-lt, zero-div}
 use native.Mathlib.Omega.{arith}
-use lib.Dec.{T, eqb, eqb→eq, lit<}
-use lib.Bits.{bitAnd, bitOr, and-shr, or-shr, and-mod, or-mod, or-lt, and-le-r, and-mask}
+use lib.Dec.{eqb, eqb→eq, lit<}
+use lib.Bits.{bitAnd, bitOr, and-shr, or-shr, and-mod, or-mod, and-mask}
 use borrow.Author.Tests.{eqb-true, eqb-false}
 use Rattle.bits.specs.Bits.{bit, isOn, mergeOf, numberOf, choose}
 use Rattle.bits.specs.Claims.{MergeTakes}
@@ -95,12 +95,6 @@ pub merge-given : (o m b j : ℕ) → m < 256 → j < 8 → bit m j ≡ 1 → bi
 unfolding given-digit mergeOf
 merge-given o m b j hm hj e =
     simp (or-bit, and-bit, not-bit m j hm hj, e) (eqb→eq _ _ (every-at2 given-digit 2 2 tt (bit o j) (bit b j) (bit-lt o j) (bit-lt b j)))
-
--- a merge is a byte, whatever it is given
-pub merge-byte : (o m b : ℕ) → m < 256 → mergeOf o m b < 256
-unfolding mergeOf
-merge-byte o m b h =
-    or-lt 8 (bitAnd o (255 - m)) (bitAnd b m) (omega (arith, and-le-r o (255 - m))) (omega (arith, and-le-r b m))
 
 -- ---- tests and numbers
 abbrev pub one-if : Bool → ℕ

@@ -3,11 +3,9 @@
 use mathlib.Core.Path.{_≡_, subst, sym, refl}
 use mathlib.Core.Bool.{Bool, true, false, Bool·beq}
 use mathlib.Core.Logic.{⊎-elim}
-use Prim.Native.Nat.{ℕ, zero, suc, _+_, _-_, _*_, _/_, _%_, _^_, _<_, _≤_}
+use Prim.Native.Nat.{ℕ, zero, suc, _-_, _<_}
 use native.Mathlib.Nat.{not-suc-le-zero, eq-or-lt-of-le, le-of-suc-le-suc}
-use native.Mathlib.Omega.{arith}
 use lib.Dec.{T, eqb, eqb→eq, ltb, ltb→lt}
-use lib.Bits.{bitAnd, bitOr}
 
 abbrev pub both : Bool → Bool → Bool
 both true b = b
@@ -44,9 +42,6 @@ less-below n f g t k h = ltb→lt (f k) (g k) (every-at (λ x. ltb (f x) (g x)) 
 
 pub same-below2 : (n m : ℕ) (f g : ℕ → ℕ → ℕ) → T (every (λ a. every (λ b. eqb (f a b) (g a b)) m) n) → (a b : ℕ) → a < n → b < m → f a b ≡ g a b
 same-below2 n m f g t a b ha hb = eqb→eq (f a b) (g a b) (every-at2 (λ x y. eqb (f x y) (g x y)) n m t a b ha hb)
-
-pub less-below2 : (n m : ℕ) (f g : ℕ → ℕ → ℕ) → T (every (λ a. every (λ b. ltb (f a b) (g a b)) m) n) → (a b : ℕ) → a < n → b < m → f a b < g a b
-less-below2 n m f g t a b ha hb = ltb→lt (f a b) (g a b) (every-at2 (λ x y. ltb (f x y) (g x y)) n m t a b ha hb)
 
 -- two tests that agree by computing
 pub beq-same : (a b : Bool) → T (Bool·beq a b) → a ≡ b

@@ -19,16 +19,13 @@ use sensor::Mode;
 use w83782d_map::BANK_1;
 use w83782d_map::BANK_2;
 use w83782d_map::CELLS;
+use w83782d_map::IRQ_OVT;
+use w83782d_map::SENSOR_1_HYSTERESIS;
+use w83782d_map::SENSOR_1_OVER;
 
 // ---- Cells
 
 const SENSOR_1: usize = 0x27 - 0x20;
-
-const SENSOR_1_OVER: usize = 0x39 - 0x20;
-
-const SENSOR_1_HYSTERESIS: usize = 0x3a - 0x20;
-
-const IRQ_OVT: usize = 0x4c - 0x20;
 
 // Within the banks of sensors 2 and 3.
 const CONFIGURED: usize = 2;

@@ -12,7 +12,8 @@ use sensor::Output;
 use sensor::Remote;
 use w83782d_latches::Latches;
 
-const IMAGE: usize = 128;
+// The bytes of an image.
+pub const IMAGE: usize = 128;
 
 // Where the flags lie in the image, and the first spare byte.
 const CHASSIS: usize = 112;

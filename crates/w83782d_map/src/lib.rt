@@ -46,9 +46,9 @@ const MINUS_5_HIGH: usize = 0x37 - 0x20;
 
 const MINUS_5_LOW: usize = 0x38 - 0x20;
 
-const SENSOR_1_OVER: usize = 0x39 - 0x20;
+pub const SENSOR_1_OVER: usize = 0x39 - 0x20;
 
-const SENSOR_1_HYSTERESIS: usize = 0x3a - 0x20;
+pub const SENSOR_1_HYSTERESIS: usize = 0x3a - 0x20;
 
 const FAN_1_LIMIT: usize = 0x3b - 0x20;
 
@@ -62,9 +62,9 @@ pub const INTERRUPT_STATUS_1: usize = 0x41 - 0x20;
 
 pub const INTERRUPT_STATUS_2: usize = 0x42 - 0x20;
 
-const SMI_MASK_1: usize = 0x43 - 0x20;
+pub const SMI_MASK_1: usize = 0x43 - 0x20;
 
-const SMI_MASK_2: usize = 0x44 - 0x20;
+pub const SMI_MASK_2: usize = 0x44 - 0x20;
 
 pub const CHASSIS_CLEAR: usize = 0x46 - 0x20;
 
@@ -76,9 +76,9 @@ pub const DEVICE_ID: usize = 0x49 - 0x20;
 
 const REMOTE_ADDRESS: usize = 0x4a - 0x20;
 
-const PIN_CONTROL: usize = 0x4b - 0x20;
+pub const PIN_CONTROL: usize = 0x4b - 0x20;
 
-const IRQ_OVT: usize = 0x4c - 0x20;
+pub const IRQ_OVT: usize = 0x4c - 0x20;
 
 const GPO_CONTROL: usize = 0x4d - 0x20;
 
@@ -94,17 +94,17 @@ pub const CHIP_ID: usize = 0x58 - 0x20;
 
 const DIODE_SELECTION: usize = 0x59 - 0x20;
 
-const PWM_DUTY_2: usize = 0x5a - 0x20;
+pub const PWM_DUTY_2: usize = 0x5a - 0x20;
 
-const PWM_DUTY_1: usize = 0x5b - 0x20;
+pub const PWM_DUTY_1: usize = 0x5b - 0x20;
 
 const PWM_CLOCK: usize = 0x5c - 0x20;
 
-const VBAT_FAN_DIVISOR: usize = 0x5d - 0x20;
+pub const VBAT_FAN_DIVISOR: usize = 0x5d - 0x20;
 
-const PWM_DUTY_3: usize = 0x5e - 0x20;
+pub const PWM_DUTY_3: usize = 0x5e - 0x20;
 
-const PWM_DUTY_4: usize = 0x5f - 0x20;
+pub const PWM_DUTY_4: usize = 0x5f - 0x20;
 
 pub const BANK_1: usize = 64;
 
@@ -131,6 +131,8 @@ const SENSOR_3_OVER: usize = BANK_2 + 5;
 const SENSOR_3_OVER_LOW: usize = BANK_2 + 6;
 
 const BANK_4: usize = 96;
+
+pub const REAL_TIME_STATUS_1: usize = BANK_4 + 9;
 
 pub const REAL_TIME_STATUS_2: usize = BANK_4 + 0xa;
 

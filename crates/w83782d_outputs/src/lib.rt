@@ -9,11 +9,9 @@ use bits::is_on;
 use w83782d_map::CONFIGURATION;
 use w83782d_map::INTERRUPT_STATUS_1;
 use w83782d_map::INTERRUPT_STATUS_2;
+use w83782d_map::SMI_MASK_1;
+use w83782d_map::SMI_MASK_2;
 use w83782d_registers::with_chassis;
-
-const SMI_MASK_1: usize = 0x43 - 0x20;
-
-const SMI_MASK_2: usize = 0x44 - 0x20;
 
 // Whether SMI is asserted.
 pub fn smi(s: &[u8], chassis: bool) -> bool

@@ -13,6 +13,10 @@ use voltages::Reading;
 use voltages::millivolts;
 use w83782d_map::BANK_1;
 use w83782d_map::BANK_2;
+use w83782d_map::PWM_DUTY_1;
+use w83782d_map::PWM_DUTY_2;
+use w83782d_map::PWM_DUTY_3;
+use w83782d_map::PWM_DUTY_4;
 use w83782d_store::divisor_field;
 
 const VCOREA: usize = 0x20 - 0x20;
@@ -21,14 +25,6 @@ const SENSOR_1: usize = 0x27 - 0x20;
 
 // The cell before fan 1's count.
 const COUNTS: usize = 0x27 - 0x20;
-
-const PWM_DUTY_2: usize = 0x5a - 0x20;
-
-const PWM_DUTY_1: usize = 0x5b - 0x20;
-
-const PWM_DUTY_3: usize = 0x5e - 0x20;
-
-const PWM_DUTY_4: usize = 0x5f - 0x20;
 
 const SENSOR_2: usize = BANK_1;
 

@@ -22,6 +22,8 @@ use w83782d_latches::Latches;
 use w83782d_map::CELLS;
 use w83782d_map::INTERRUPT_STATUS_1;
 use w83782d_map::INTERRUPT_STATUS_2;
+use w83782d_map::REAL_TIME_STATUS_1;
+use w83782d_map::REAL_TIME_STATUS_2;
 use w83782d_store::answer_to;
 use w83782d_store::store;
 
@@ -30,12 +32,6 @@ use w83782d_store::store;
 const ACCEPTED: u8 = 0;
 
 const WRONG_LENGTH: u8 = 8;
-
-// ---- Cells
-
-const REAL_TIME_STATUS_1: usize = 96 + 9;
-
-const REAL_TIME_STATUS_2: usize = 96 + 0xa;
 
 // ---- Steps
 

@@ -25,6 +25,9 @@ use w83782d_map::BANK_1;
 use w83782d_map::BANK_2;
 use w83782d_map::CELLS;
 use w83782d_map::CONFIGURATION;
+use w83782d_map::PIN_CONTROL;
+use w83782d_map::VBAT_FAN_DIVISOR;
+use w83782d_map::VID_FAN_DIVISOR;
 
 // ---- Answer numbers
 
@@ -38,12 +41,6 @@ const STOPPED: u8 = 4;
 
 const SENSOR_1: usize = 0x27 - 0x20;
 
-const FAN_DIVISOR_1_2: usize = 0x47 - 0x20;
-
-const FAN_DIVISOR_3: usize = 0x4b - 0x20;
-
-const FAN_DIVISOR_TOP: usize = 0x5d - 0x20;
-
 // The count of fan f stands at 27h + f.
 const COUNTS: usize = 0x27 - 0x20;
 
@@ -54,9 +51,9 @@ pub fn divisor_field(f: usize) -> Field
     ensures { λ r. ⌜ placesOf r ≡ divisorPlaces f ⌝ }
 {
     match f {
-        1 => field(FAN_DIVISOR_1_2, Bit::B4, Bit::B5, Bit::B5),
-        2 => field(FAN_DIVISOR_1_2, Bit::B6, Bit::B7, Bit::B6),
-        _ => field(FAN_DIVISOR_3, Bit::B6, Bit::B7, Bit::B7),
+        1 => field(VID_FAN_DIVISOR, Bit::B4, Bit::B5, Bit::B5),
+        2 => field(VID_FAN_DIVISOR, Bit::B6, Bit::B7, Bit::B6),
+        _ => field(PIN_CONTROL, Bit::B6, Bit::B7, Bit::B7),
     }
 }
 
@@ -67,7 +64,7 @@ fn field(cell: usize, low: Bit, middle: Bit, high: Bit) -> Field
     let a = Place { cell, bit: low };
     let b = Place { cell, bit: middle };
     let c = Place {
-        cell: FAN_DIVISOR_TOP,
+        cell: VBAT_FAN_DIVISOR,
         bit: high,
     };
     Field {

@@ -11,14 +11,21 @@ use Rattle.bits.specs.Bits.{choose, Change}
 
 -- ---- a rewrite, of the bits that setting a plan gave
 
--- a byte that gives one of them another value
-abbrev pub differs : Change → ℕ → Bool
-differs c v = not (eqb (bitAnd v (c .mask)) (bitAnd (c .byte) (c .mask)))
+-- two changes give a bit of one cell different values
+abbrev pub differ : Change → Change → Bool
+differ c e =
+    eqb (e .cell) (c .cell)
+    && not (eqb (bitAnd (e .byte) (bitAnd (c .mask) (e .mask))) (bitAnd (c .byte) (bitAnd (c .mask) (e .mask))))
 
--- "A rewrite is an accepted write whose byte gives a bit of that fan's limit or divisor another value than the plan's.": to cell k
-abbrev pub rewrites : List Change → ℕ → ℕ → Bool
-rewrites [] k v = false
-rewrites (c ∷ cs) k v = (eqb k (c .cell) && differs c v) || rewrites cs k v
+abbrev pub rewrites : List Change → Change → Bool
+rewrites [] e = false
+rewrites (c ∷ cs) e = differ c e || rewrites cs e
+
+-- "A rewrite is an accepted write whose byte gives a bit of that fan's limit or divisor another value than the plan's.": one of
+-- what a call gives
+abbrev pub rewritten : List Change → List Change → Bool
+rewritten cs [] = false
+rewritten cs (e ∷ es) = rewrites cs e || rewritten cs es
 
 -- ---- "A plan is in force on its fan from the call that sets it, answered 0, until .."
 pub data Force (P : Type 0) : Type 0 where
@@ -67,8 +74,9 @@ abbrev pub Stands : {S P : Type 0} → (S → P → Type 0) → S → Force P �
 Stands Set s none = Unit {0}
 Stands Set s (plan p) = Set s p
 
--- so what follows of one call from a plan that stands holds at each call of every list, from every state
+-- so what follows of one call from a plan that stands holds at each call of every list, from every state, whatever plan stands in it
 abbrev pub Lists : Type 1
 Lists =
     (S C P : Type 0) (M : Machine S C P) (Fit : S → Type 0) (Set : S → P → Type 0) (Said : S → Force P → C → Type 0) → Laws M Fit Set
-    → ((s : S) (p : Force P) (c : C) → Fit s → Stands Set s p → Said s p c) → (s : S) → Fit s → (cs : List C) → Everywhere M Said s none cs
+    → ((s : S) (p : Force P) (c : C) → Fit s → Stands Set s p → Said s p c)
+    → (s : S) (p : Force P) → Fit s → Stands Set s p → (cs : List C) → Everywhere M Said s p cs

@@ -1,1 +1,3 @@
 pub mod Alarm
+pub mod Chip
+pub mod Laws

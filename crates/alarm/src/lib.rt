@@ -1,1 +1,1 @@
-// Demand 3's argument over lists of calls, for any machine: definitions and laws alone.
+// Demand 3, once: a plan in force over lists of calls for any machine, and the claim for any chip. Definitions and laws alone.

@@ -1,3 +1,3 @@
-pub mod Standing
+pub mod Stores
 pub mod Ringing
 pub mod Alarm

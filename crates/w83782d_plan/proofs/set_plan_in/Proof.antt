@@ -12,6 +12,12 @@ returns-2 c = search (needs, no-fan-below)
 returns-3 : tie.Need-returns-3
 returns-3 c = search (needs, no-fan-above)
 
+add-put-plan : tie.Need-add-put-plan
+add-put-plan c = search needs
+
+divisor-field-requires : tie.Need-divisor-field-requires
+divisor-field-requires c κs = search needs
+
 plan-requires : tie.Need-plan-requires
 plan-requires c κs = search needs
 
@@ -27,4 +33,13 @@ returns-4 c = search (needs, set)
 pub set-plan-in-spec : {M : Type 1} → statement M
 set-plan-in-spec =
     tie.close
-    (tie.spec returns returns-2 returns-3 plan-requires put-plan-requires same-length returns-4)
+    (tie.spec
+    returns
+    returns-2
+    returns-3
+    add-put-plan
+    divisor-field-requires
+    plan-requires
+    put-plan-requires
+    same-length
+    returns-4)

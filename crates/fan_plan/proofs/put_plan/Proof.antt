@@ -1,19 +1,13 @@
 use borrow.Author.Needs.{needs}
-use Rattle.w83782d_plan.proofs.Cases.{plan-put, plan-answered}
-use Rattle.w83782d_plan.proofs.put_plan.Statement.{statement}
-use Rattle.w83782d_plan.proofs.put_plan.Tie as tie
+use Rattle.fan_plan.proofs.Cases.{plan-put, plan-answered}
+use Rattle.fan_plan.proofs.put_plan.Statement.{statement}
+use Rattle.fan_plan.proofs.put_plan.Tie as tie
 
 enum-known-planned : tie.Need-enum-known-planned
 enum-known-planned c = search needs
 
-add-store : tie.Need-add-store
-add-store c = search needs
-
 store-requires : tie.Need-store-requires
 store-requires c κs = search needs
-
-divisor-field-requires : tie.Need-divisor-field-requires
-divisor-field-requires c κs = search needs
 
 put-requires : tie.Need-put-requires
 put-requires c κs = search needs
@@ -35,9 +29,7 @@ put-plan-spec =
     tie.close
     (tie.spec
     enum-known-planned
-    add-store
     store-requires
-    divisor-field-requires
     put-requires
     enum-told
     same-length

@@ -1,6 +1,7 @@
 pub mod Lists
 pub mod Writes
-pub mod Standing
+pub mod Held
 pub mod Ringing
 pub mod Chips
 pub mod Instances
+pub mod Carriers

@@ -1,3 +1,4 @@
-pub mod Alarm
+pub mod InForce
 pub mod Chip
 pub mod Laws
+pub mod Carried

@@ -1,14 +1,19 @@
--- The methods' definitions are the calls of the alarm claim: each by its own definition.
+-- The methods' definitions are the calls of the alarm claim, each by its own definition; so are lists of them.
 -- Assumes nothing.
-use mathlib.Core.Path.{_≡_, refl}
+use mathlib.Core.Path.{_≡_, refl, ap, _∙_}
+use lib.ListN.{length}
 use Rattle.samples.specs.declared.Sample.{Sample}
 use Rattle.event.specs.declared.Kind.{Kind}
 use Rattle.event.specs.declared.Kind.the-variants as kind
-use Rattle.w83782d_bus.specs.Bus.{written}
-use Rattle.w83782d_alarm.specs.Alarm.{Call, write, read, sample, chassis, setPlan, answerTo}
+use Rattle.alarm.specs.Carried.{Carries}
+use Rattle.alarm.proofs.Carriers.{every-carrier}
+use Rattle.w83782d_bus.specs.Bus.{State, Written, written}
+use Rattle.w83782d_alarm.specs.Alarm.{Call, write, read, sample, chassis, setPlan, answerTo, monitor}
+use Rattle.w83782d_alarm.specs.Events.{callFor}
+use Rattle.w83782d_alarm.proofs.Alarm.{fit, alarm-rings}
 use Rattle.w83782d.specs.declared.Monitor.{Monitor}
 use Rattle.w83782d.specs.Monitor.{stateOf, applyOf}
-use Rattle.w83782d.specs.Alarm.{answerOf, callFor, MonitorCalls}
+use Rattle.w83782d.specs.Alarm.{answerOf, byValue, MonitorCalls}
 
 same : (m : Monitor) (c : Call) → written (stateOf (answerOf m c .monitor)) (answerOf m c .answer) ≡ answerTo (stateOf m) c
 same m (write i v) = refl
@@ -25,5 +30,19 @@ applied m (kind.Read i) x = refl
 applied m kind.Sample x = refl
 applied m kind.Chassis x = refl
 
+by-value : Carries monitor byValue
+by-value =
+    record {
+      whole = λ m h. h;
+      is = λ m c h u. ap (λ (w : Written). length (w .state .registers)) (same m c) ∙ fit (stateOf m) c h;
+      step = λ m c h u. ap (λ (w : Written). w .state) (same m c);
+    }
+
 pub monitor-calls : MonitorCalls
-monitor-calls = record { calls = same; events = λ m e. applied m (e .kind) (e .sample); byte = λ m i. refl }
+monitor-calls =
+    record {
+      calls = same;
+      events = λ m e. applied m (e .kind) (e .sample);
+      byte = λ m i. refl;
+      rings = every-carrier Monitor State Call monitor byValue alarm-rings by-value;
+    }

@@ -1,14 +1,15 @@
--- Demand 3 by value. The claim itself, `AlarmRings`, stands in w83782d_alarm and is about the registers and latches; here stands
--- that the methods' definitions are its calls, so that it is about them.
+-- Demand 3 by value. The claim itself, `AlarmRings`, is in w83782d_alarm and about registers and latches; here is that the methods'
+-- definitions are its calls, so that it is about them and every list of them.
 use mathlib.Core.Path.{_≡_}
 use Prim.Native.Nat.{ℕ}
-use Rattle.samples.specs.declared.Sample.{Sample}
+use lib.ListN.{length}
 use Rattle.event.specs.declared.Event.{Event}
-use Rattle.event.specs.declared.Kind.{Kind}
-use Rattle.event.specs.declared.Kind.the-variants as kind
+use Rattle.alarm.specs.Carried.{Carrier, RingsIn}
+use Rattle.w83782d_map.specs.Map.{cells}
 use Rattle.w83782d_bus.specs.Bus as Bus
-use Rattle.w83782d_bus.specs.Bus.{written}
-use Rattle.w83782d_alarm.specs.Alarm.{Call, write, read, sample, chassis, setPlan, answerTo}
+use Rattle.w83782d_bus.specs.Bus.{State, written}
+use Rattle.w83782d_alarm.specs.Alarm.{Call, write, read, sample, chassis, setPlan, answerTo, monitor}
+use Rattle.w83782d_alarm.specs.Events.{callFor}
 use Rattle.w83782d.specs.declared.Monitor.{Monitor}
 use Rattle.w83782d.specs.declared.Answered.{Answered}
 use Rattle.w83782d.specs.Monitor.{stateOf, writeOf, readOf, sampleOf, openedOf, setPlanOf, applyOf}
@@ -21,17 +22,23 @@ answerOf m (sample x) = sampleOf m x
 answerOf m chassis = openedOf m
 answerOf m (setPlan f w) = setPlanOf m f w
 
--- an event is the call of its kind
-abbrev pub callFor : Kind → Sample → Call
-callFor (kind.Write i v) x = write i v
-callFor (kind.Read i) x = read i
-callFor kind.Sample x = sample x
-callFor kind.Chassis x = chassis
+-- the monitor carries the claim's state, and hands itself on from call to call
+abbrev pub byValue : Carrier Monitor State Call
+byValue =
+    record {
+      Is = λ m. length (m .registers) ≡ cells;
+      state = stateOf;
+      Takes = λ c. Unit {0};
+      step = λ m c. answerOf m c .monitor;
+    }
 
 pub record MonitorCalls : Type 0 where
   -- a call on the monitor is that call on its registers and latches
   pub calls : (m : Monitor) (c : Call) → written (stateOf (answerOf m c .monitor)) (answerOf m c .answer) ≡ answerTo (stateOf m) c
   -- so is applying an event
-  pub events : (m : Monitor) (e : Event) → record { monitor = applyOf m e .monitor; answer = applyOf m e .answer } ≡ answerOf m (callFor (e .kind) (e .sample))
+  pub events : (m : Monitor) (e : Event)
+      → record { monitor = applyOf m e .monitor; answer = applyOf m e .answer } ≡ answerOf m (callFor (e .kind) (e .sample))
   -- and the byte that a read shows is the one that the claim looks at
   pub byte : (m : Monitor) (i : ℕ) → readOf m i .byte ≡ Bus.readOf (stateOf m) i .byte
+  -- so a list of calls is that list, and the claim is true at each of them
+  pub rings : RingsIn monitor byValue

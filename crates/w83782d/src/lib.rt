@@ -4,7 +4,8 @@ ghost use mathlib.Core.Path.{_≡_};
 ghost use Rattle.w83782d_bus_laws.specs.Claims.{WriteClaims, ReadClaims, OpenedClaims};
 ghost use Rattle.w83782d_sample_laws.specs.Claims.{SampleClaims};
 ghost use Rattle.w83782d_settings.specs.Claims.{PlanClaims};
-ghost use Rattle.w83782d_alarm.specs.Alarm.{AlarmRings};
+ghost use Rattle.w83782d_alarm.specs.Alarm.{AlarmRings, SetsAlarm, SampleRings};
+ghost use Rattle.w83782d_alarm.specs.Events.{EventCalls};
 ghost use Rattle.w83782d_outputs.specs.Outputs.{smiOf, standingAlarms};
 ghost use Rattle.w83782d_readings.specs.Readings.{voltageOf, speedOf, temperatureOf, dutyOf};
 ghost use Rattle.w83782d.specs.Monitor.{stateOf, powerOnOf, writeOf, readOf, sampleOf, openedOf, setPlanOf, applyOf, ovtOf};
@@ -114,6 +115,7 @@ impl Monitor {
     pub fn sample(mut self, x: Sample) -> Answered
         ensures equation { λ r. ⌜ r ≡ sampleOf self x ⌝ }
         ensures claims { λ r. ⌜ SampleClaims (stateOf self) x ⌝ }
+        ensures rings { λ r. ⌜ SampleRings (stateOf self) x ⌝ }
     {
         let mut registers = self.registers;
         let latches = self.latches;
@@ -130,11 +132,12 @@ impl Monitor {
     }
 
     // An alarm for a fan, 1 to 3, at a speed of 1 to 1,350,000 turns a minute: answered 0, or 7 or 6 with the monitor as it was.
-    // What it promises over every list of calls that follow, or come before, is `AlarmRings`; that those calls are these methods,
-    // `MonitorCalls`.
+    // What that means for this fan, speed and monitor is `SetsAlarm`; over every list of calls, `AlarmRings`; that those calls are
+    // these methods, and lists of them, `MonitorCalls`.
     pub fn set_plan(mut self, fan: u8, rpm: u32) -> Answered
         ensures equation { λ r. ⌜ r ≡ setPlanOf self fan rpm ⌝ }
         ensures claims { λ r. ⌜ PlanClaims (stateOf self) fan rpm ⌝ }
+        ensures own { λ r. ⌜ SetsAlarm (stateOf self) fan rpm ⌝ }
         ensures alarm { λ r. ⌜ AlarmRings ⌝ }
         ensures calls { λ r. ⌜ MonitorCalls ⌝ }
     {
@@ -154,7 +157,8 @@ impl Monitor {
 
     // Any event: its answer, and the byte of an accepted read, else 0. A refused event leaves the monitor as it was.
     pub fn apply(mut self, event: Event) -> Shown
-        ensures { λ r. ⌜ r ≡ applyOf self event ⌝ }
+        ensures equation { λ r. ⌜ r ≡ applyOf self event ⌝ }
+        ensures calls { λ r. ⌜ EventCalls ⌝ }
     {
         let mut registers = self.registers;
         let latches = self.latches;

@@ -1,3 +1,4 @@
 pub mod Stores
 pub mod Ringing
 pub mod Alarm
+pub mod Events

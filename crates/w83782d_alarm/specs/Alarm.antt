@@ -1,13 +1,16 @@
 -- Demand 3 for the W83782D: its calls, what each is to a plan in force, and where its fans' bits stand. Crate `alarm` has the claim
 -- itself, once for every chip (Chip.antt), and how long a plan is in force (Alarm.antt).
+use mathlib.Core.Path.{_≡_}
 use mathlib.Core.Bool.{Bool, _&&_}
 use mathlib.Core.List.{List, [], _∷_, map}
-use Prim.Native.Nat.{ℕ, _-_}
+use Prim.Native.Nat.{ℕ, _-_, _≤_}
 use lib.Dec.{eqb, leb}
 use lib.ListN.{getD}
 use Rattle.bits.specs.Bits.{choose, bit, isOn, change}
+use Rattle.alarm.specs.InForce.{none, plan, found, afterAll}
 use Rattle.alarm.specs.Chip as chip
-use Rattle.alarm.specs.Chip.{Kind, reset, writing, planning, sampling, other, Chip}
+use Rattle.alarm.specs.Chip.{Kind, reset, writing, planning, sampling, other, Chip, Alarm, Whole, watched, Rings}
+use Rattle.fan.specs.Count.{perMinute}
 use Rattle.samples.specs.declared.Sample.{Sample}
 use Rattle.w83782d_map.specs.Map.{cells, at, realTimeStatus2}
 use Rattle.w83782d_registers.specs.Registers.{resetRegisters}
@@ -86,3 +89,16 @@ monitor =
 -- of every fan, every state to start from and every list of calls, at each of its calls
 abbrev pub AlarmRings : Type 0
 AlarmRings = chip.AlarmRings monitor
+
+-- ---- what it says of one call's own arguments
+
+-- asking: of this fan, this speed and this state
+abbrev pub SetsAlarm : State → ℕ → ℕ → Type 0
+SetsAlarm s f w = 1 ≤ f → f ≤ fans → 1 ≤ w → w ≤ perMinute → chip.SetsPlan monitor f s (setPlan f w) w
+
+-- a sample: of this sample and this state, whatever calls led to it and left a plan in force
+abbrev pub SampleRings : State → Sample → Type 0
+SampleRings s x =
+    (f : ℕ) → 1 ≤ f → f ≤ fans → (start : State) → Whole monitor start → (before : List Call) (p : Alarm)
+    → afterAll (watched monitor f) (found start none) before ≡ found s (plan p)
+    → sampleOf s x .answer ≡ 0 → Rings monitor f s p (sample x) (undividedOf x f)

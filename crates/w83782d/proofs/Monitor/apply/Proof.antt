@@ -1,4 +1,5 @@
 use borrow.Author.Needs.{needs}
+use Rattle.w83782d_alarm.proofs.Events.{event-calls}
 use Rattle.w83782d.proofs.Faces.{apply-face}
 use Rattle.w83782d.proofs.Monitor.apply.Statement.{statement}
 use Rattle.w83782d.proofs.Monitor.apply.Tie as tie
@@ -10,7 +11,7 @@ take-in-requires : tie.Need-take-in-requires
 take-in-requires c κs = search needs
 
 returns : tie.Need-returns
-returns c = search (needs, apply-face)
+returns c = (search (needs, apply-face), event-calls)
 
 pub apply-spec : {M : Type 1} → statement M
 apply-spec = tie.close (tie.spec slice-aggregate-take-in take-in-requires returns)

@@ -5,6 +5,7 @@ use mir.Syntax.{w8}
 use lib.ListN.{getD}
 use Rattle.w83782d.specs.Monitor.{stateOf}
 use Rattle.w83782d_sample_laws.proofs.Proved.{sample-claims}
+use Rattle.w83782d_alarm.proofs.Alarm.{sample-rings}
 use Rattle.w83782d.proofs.Faces.{sample-face}
 use Rattle.w83782d.proofs.Monitor.sample.Statement.{statement}
 use Rattle.w83782d.proofs.Monitor.sample.Tie as tie
@@ -19,7 +20,7 @@ returns : tie.Need-returns
 returns c =
     let m = c .before .before .before .before .before .before .args .self in
     let fits : (k : ℕ) → Fits w8 (getD (m .registers) k 0) = λ k. search needs in
-    (search (needs, sample-face), sample-claims (stateOf m) _ (record { count = search needs; bytes = λ k. fits k .fits }))
+    (search (needs, sample-face), (sample-claims (stateOf m) _ (record { count = search needs; bytes = λ k. fits k .fits }), sample-rings (stateOf m) _))
 
 pub sample-spec : {M : Type 1} → statement M
 sample-spec = tie.close (tie.spec slice-aggregate-sample-in sample-in-requires returns)

@@ -9,13 +9,16 @@
  * Every call ends, whatever its arguments, and what can be refused answers one
  * of the numbers below. A refused call leaves every byte that it was lent, and
  * what it returns beside the answer is 0. Only w83782d_replay, which is many
- * calls in one, keeps what it did before a refusal. Two things are the caller's
+ * calls in one, keeps what it did before a refusal. Three things are the caller's
  * part: a pointer is not null and leads to as many bytes as the length after it
- * says, and the buffers of one call don't overlap.
+ * says; the buffers of one call don't overlap; and a number fits the type of its
+ * parameter. C narrows one that doesn't, silently, so that fan 257 is fan 1 and is
+ * answered 0 (gcc warns with -Wconversion).
  *
- * The comment of each call lists its answers; in brackets stands what is wrong, as
- * in 8 (n), where n is not the length that the call needs. docs/EMBEDDING.md tells
- * how firmware uses the calls.
+ * The comment of each call lists its answers, in brackets what is wrong, as in 8 (n),
+ * where n is not the length that the call needs. Where several apply, 8 comes first,
+ * and the others as the comment has them: 1 before 2, 5 before 3 before 4, 7 before 6.
+ * docs/EMBEDDING.md says how firmware uses the calls.
  *
  * To link: libw83782d_c.a, which `rt staticlib w83782d_c` writes to
  * target/staticlib/, and nothing else. It calls no function outside itself, not
@@ -58,7 +61,7 @@
  * channels 5 and 6 only, a resistor not 1 to 1,000 kilo-ohm. */
 #define W83782D_NO_CHANNEL 7
 /* Image, codes or output buffer of another length than the call needs. It comes
- * before every other refusal. */
+ * before every other refusal. A record of another length is W83782D_BAD_RECORD. */
 #define W83782D_BAD_LENGTH 8
 
 /* ---- Parts of a returned word ---- */
@@ -104,6 +107,20 @@
 /* Of w83782d_record_at: no such record, answer W83782D_BAD_RECORD. */
 #define W83782D_NO_RECORD UINT64_MAX
 
+/*
+ * Before every function: its answer or value must not be ignored. A compiler that
+ * knows how warns of a call that ignores it (gcc even where it is cast to void).
+ */
+#if defined(__GNUC__)
+#define W83782D_MUST_USE __attribute__((warn_unused_result))
+#elif defined(__cplusplus) && __cplusplus >= 201703L
+#define W83782D_MUST_USE [[nodiscard]]
+#elif defined(__STDC_VERSION__) && __STDC_VERSION__ >= 202311L
+#define W83782D_MUST_USE [[nodiscard]]
+#else
+#define W83782D_MUST_USE
+#endif
+
 #ifdef __cplusplus
 extern "C" {
 #endif
@@ -112,15 +129,17 @@ extern "C" {
 
 /*
  * Power-on: every byte of the image is given its power-on value, whatever it
- * was. Answers 0, or 8 if n is not W83782D_IMAGE_SIZE; the image is then left
- * as it was.
+ * was. This ends every plan and clears the chassis latch. Answers 0, or 8 if n is
+ * not W83782D_IMAGE_SIZE; the image is then left as it was.
  */
+W83782D_MUST_USE
 uint8_t w83782d_power_on(uint8_t *image, size_t n);
 
 /*
  * Bus write of a value to an index. Answers 0, 1 (no register), 2 (read-only)
  * or 8 (n); a refusal leaves every byte of the image.
  */
+W83782D_MUST_USE
 uint8_t w83782d_write(uint8_t *image, size_t n, uint8_t index, uint8_t value);
 
 /*
@@ -129,22 +148,27 @@ uint8_t w83782d_write(uint8_t *image, size_t n, uint8_t index, uint8_t value);
  * answer is 0, 1 (no register) or 8 (n). A refusal gives byte 0 and leaves every
  * byte of the image.
  */
+W83782D_MUST_USE
 uint16_t w83782d_read(uint8_t *image, size_t n, uint8_t index);
 
 /*
  * The chassis was opened: the latch is set, in standby too. Answers 0, or 8 (n);
  * a refusal leaves every byte of the image.
  */
+W83782D_MUST_USE
 uint8_t w83782d_chassis_opened(uint8_t *image, size_t n);
 
 /*
  * Sample: codes of the seven voltages (VCOREA, VINR0, +3.3, +5, +12, -12, -5),
  * sensor 1 in whole degrees, sensors 2 and 3 in half degrees, the undivided counts
- * of fans 1 to 3: 1,350,000 / rpm rounded down, UINT32_MAX for a fan that stands.
- * Stores them, sets the real-time bits, latches status and moves OVT. Answers 0,
- * 8 (n, or v is not W83782D_VOLTAGES), 3 (t2 or t3 outside -256 to 255) or 4
- * (monitoring is stopped); a refusal leaves every byte of the image.
+ * of fans 1 to 3: 1,350,000 / rpm rounded down, UINT32_MAX for a fan that doesn't
+ * turn. Stores them, sets the real-time bits, latches status and moves OVT.
+ * Sensor 1 is -128 to 127: the caller holds a measurement beyond that at the nearer
+ * end, since no answer can tell of it (130 as int8_t is -126, an alarm lost).
+ * Answers 0, 8 (n, or v is not W83782D_VOLTAGES), 3 (t2 or t3 outside -256 to 255)
+ * or 4 (monitoring is stopped); a refusal leaves every byte of the image.
  */
+W83782D_MUST_USE
 uint8_t w83782d_sample(uint8_t *image, size_t n, const uint8_t *volts, size_t v, int8_t t1,
                        int16_t t2, int16_t t3, uint32_t u1, uint32_t u2, uint32_t u3);
 
@@ -155,27 +179,31 @@ uint8_t w83782d_sample(uint8_t *image, size_t n, const uint8_t *volts, size_t v,
  * counts and real-time bits wait for the next sample. From then on an accepted
  * sample sets the fan's real-time bit exactly when its undivided count is
  * (limit + 1) * divisor or more, until the first of these: a reset by 40h bit 7,
- * an accepted write that gives a bit of that fan's limit or divisor another value,
- * the next accepted plan on that fan. Answers 0, 8 (n), 7 (fan) or 6 (speed); a
- * refusal leaves every byte of the image.
+ * an accepted write that gives a bit of that fan's limit or divisor another value
+ * (either may come in a record too), the next accepted plan on that fan,
+ * w83782d_power_on. Answers 0, 8 (n), 7 (fan) or 6 (speed); a refusal leaves every
+ * byte of the image and the plan that was in force.
  */
+W83782D_MUST_USE
 uint8_t w83782d_set_plan(uint8_t *image, size_t n, uint8_t fan, uint32_t rpm);
 
 /*
  * The event of a record, with what the call of that event does. Returns
  * answer * 256 + byte, the byte of an accepted bus read, else 0. The answer is 0,
- * 8 (n), what w83782d_decode answers (5 or 3) or what the event is refused with
- * (1, 2 or 4); a refusal leaves every byte of the image.
+ * 8 (n), what w83782d_decode answers (5, also for m, or 3) or what the event is
+ * refused with (1, 2 or 4); a refusal leaves every byte of the image.
  */
+W83782D_MUST_USE
 uint16_t w83782d_event(uint8_t *image, size_t n, const uint8_t *record, size_t m);
 
 /*
  * The events of a log, record by record, up to the first that is refused. Returns
  * answer * 2^60 + records accepted; the answer is 0 at the end of the log, 5 at a
- * part of a record there, or that of w83782d_event to the record that ended it.
- * The image is as the accepted records leave it, whatever the answer: where none
- * was accepted, and for 8 (n), every byte is left.
+ * part of a record there, that of w83782d_event to the record that ended it, or
+ * 8 (n). The image is as the accepted records leave it, whatever the answer: where
+ * none was accepted, and for 8, every byte is left. A log of 0 bytes is answered 0.
  */
+W83782D_MUST_USE
 uint64_t w83782d_replay(uint8_t *image, size_t n, const uint8_t *log, size_t m);
 
 /* ---- Outputs and readings of a monitor ---- */
@@ -183,8 +211,10 @@ uint64_t w83782d_replay(uint8_t *image, size_t n, const uint8_t *log, size_t m);
 /*
  * Standing alarms, the count of set bits in 41h and 42h, and the outputs SMI and
  * OVT of sensors 2 and 3. Returns answer * 65536 + standing alarms * 256 + bit 0
- * SMI, bit 1 OVT of sensor 2, bit 2 OVT of sensor 3; the answer is 0 or 8 (n).
+ * SMI, bit 1 OVT of sensor 2, bit 2 OVT of sensor 3; the answer is 0 or 8 (n). A
+ * refusal gives 0 alarms and no output asserted: look at the answer first.
  */
+W83782D_MUST_USE
 uint32_t w83782d_outputs(const uint8_t *image, size_t n);
 
 /*
@@ -192,6 +222,7 @@ uint32_t w83782d_outputs(const uint8_t *image, size_t n);
  * byte is W83782D_NUMBER, with the rpm in the low 24 bits, W83782D_TOO_FAST
  * (count 0), W83782D_TOO_SLOW (count 255), or 80h + answer, 8 (n) or 7 (fan).
  */
+W83782D_MUST_USE
 uint32_t w83782d_speed(const uint8_t *image, size_t n, uint8_t fan);
 
 /*
@@ -199,6 +230,7 @@ uint32_t w83782d_speed(const uint8_t *image, size_t n, uint8_t fan);
  * degrees. Returns answer * 65536 + half degrees as 16 bits in two's complement;
  * the answer is 0, 8 (n) or 7 (sensor).
  */
+W83782D_MUST_USE
 uint32_t w83782d_temperature(const uint8_t *image, size_t n, uint8_t sensor);
 
 /* ---- Plans and readings that need no monitor ---- */
@@ -209,6 +241,7 @@ uint32_t w83782d_temperature(const uint8_t *image, size_t n, uint8_t sensor);
  * answer * 65536 + divisor * 256 + limit; the answer is 0 or 6 (speed). A refusal
  * gives divisor 0 and limit 0.
  */
+W83782D_MUST_USE
 uint32_t w83782d_plan(uint32_t rpm);
 
 /*
@@ -216,18 +249,21 @@ uint32_t w83782d_plan(uint32_t rpm);
  * -12, -5) with resistors R5 and R6 in kilo-ohm, which count for channels 5 and
  * 6 only: 0 or 7. Ask before w83782d_millivolts, since 0 is a reading too.
  */
+W83782D_MUST_USE
 uint8_t w83782d_millivolts_answer(uint8_t channel, uint32_t r5, uint32_t r6);
 
 /*
  * The millivolts of a code on a voltage channel, nearest, halves away from zero;
  * 0 where w83782d_millivolts_answer is 7.
  */
+W83782D_MUST_USE
 int32_t w83782d_millivolts(uint8_t channel, uint8_t code, uint32_t r5, uint32_t r6);
 
 /*
  * How many of 256 parts a PWM duty byte is on: the byte, and 256 for FFh. Never
  * refused.
  */
+W83782D_MUST_USE
 uint16_t w83782d_pwm_parts(uint8_t x);
 
 /* ---- Event records ---- */
@@ -237,37 +273,43 @@ uint16_t w83782d_pwm_parts(uint8_t x);
  * zero) or 3 (a well-formed sample with a bad temperature). Never 4: whether a
  * monitor would take the event isn't asked.
  */
+W83782D_MUST_USE
 uint8_t w83782d_decode(const uint8_t *record, size_t m);
 
 /*
- * Where record k of a log starts: 32 k, if the log has all of its 32 bytes, or
- * W83782D_NO_RECORD, which stands for answer 5.
+ * Where record k of a log, counted from 0, starts: 32 k, if the log has all of its
+ * 32 bytes, or W83782D_NO_RECORD, which is answer 5.
  */
+W83782D_MUST_USE
 uint64_t w83782d_record_at(const uint8_t *log, size_t m, uint64_t k);
 
 /*
  * Writes the record of a bus write to out. Answers 0, or 8 if m is not
  * W83782D_RECORD_SIZE; a refusal leaves every byte of out.
  */
+W83782D_MUST_USE
 uint8_t w83782d_record_write(uint8_t index, uint8_t value, uint8_t *out, size_t m);
 
 /*
  * Writes the record of a bus read to out. Answers 0 or 8 (m); a refusal leaves
  * every byte of out.
  */
+W83782D_MUST_USE
 uint8_t w83782d_record_read(uint8_t index, uint8_t *out, size_t m);
 
 /*
  * Writes the record of an opened chassis to out. Answers 0 or 8 (m); a refusal
  * leaves every byte of out.
  */
+W83782D_MUST_USE
 uint8_t w83782d_record_chassis(uint8_t *out, size_t m);
 
 /*
- * Writes the record of a sample to out, with the numbers that w83782d_sample takes.
- * Answers 0, 8 (v is not W83782D_VOLTAGES, or m) or 3 (t2 or t3 outside -256 to
- * 255); a refusal leaves every byte of out.
+ * Writes the record of a sample to out, with the numbers that w83782d_sample takes,
+ * sensor 1 as there. Answers 0, 8 (v is not W83782D_VOLTAGES, or m) or 3 (t2 or t3
+ * outside -256 to 255); a refusal leaves every byte of out.
  */
+W83782D_MUST_USE
 uint8_t w83782d_record_sample(const uint8_t *volts, size_t v, int8_t t1, int16_t t2, int16_t t3,
                               uint32_t u1, uint32_t u2, uint32_t u3, uint8_t *out, size_t m);
 

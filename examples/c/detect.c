@@ -104,11 +104,13 @@ int main(void)
     }
 
     /* A refusal is an answer like any other, and changes nothing: a reserved
-     * index, a read-only register, an image of the wrong length. */
-    (void)read_register(image, 0x45, &byte);
-    (void)write_register(image, CHIP_ID, 0xFF);
+     * index, a read-only register, an image of the wrong length. None may be
+     * accepted. */
+    if (read_register(image, 0x45, &byte) || write_register(image, CHIP_ID, 0xFF))
+        return 1;
     answer = w83782d_chassis_opened(image, sizeof image - 1);
-    if (answer != W83782D_ACCEPTED)
-        printf("image of %d bytes: refused, answer %d\n", (int)sizeof image - 1, answer);
+    if (answer == W83782D_ACCEPTED)
+        return 1;
+    printf("image of %d bytes: refused, answer %d\n", (int)sizeof image - 1, answer);
     return 0;
 }

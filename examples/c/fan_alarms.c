@@ -84,6 +84,10 @@ static bool take_sample(uint8_t *image, const uint32_t rpm[FANS])
         return false;
     }
     outputs = w83782d_outputs(image, W83782D_IMAGE_SIZE);
+    if (W83782D_OUTPUTS_ANSWER(outputs) != W83782D_ACCEPTED) {
+        printf("outputs: refused, %s\n", in_words(W83782D_OUTPUTS_ANSWER(outputs)));
+        return false;
+    }
     printf("fans at %lu, %lu, %lu rpm: alarms %d, SMI %d\n", (unsigned long)rpm[0],
            (unsigned long)rpm[1], (unsigned long)rpm[2], W83782D_OUTPUTS_ALARMS(outputs),
            W83782D_OUTPUTS_SMI(outputs));
@@ -99,9 +103,9 @@ int main(void)
     if (!start_up(image) || !take_sample(image, fast))
         return 1;
 
-    /* A refused alarm leaves the one that is set. */
-    (void)set_alarm(image, 1, 0);
-    (void)set_alarm(image, FANS + 1, 4400);
+    /* A refused alarm leaves the one that is set. Neither of these may be accepted. */
+    if (set_alarm(image, 1, 0) || set_alarm(image, FANS + 1, 4400))
+        return 1;
     if (!take_sample(image, fan_1_slow))
         return 1;
     return 0;

@@ -65,7 +65,7 @@ static bool chassis_switch(void)
     return moment == 4;
 }
 
-/* The undivided count of fan 1 to 3; a fan that stands has the largest. */
+/* The undivided count of fan 1 to 3; one that doesn't turn has the largest. */
 static uint32_t count_of_fan(int fan)
 {
     uint32_t rpm = fan == 1 ? fan_1_rpm[moment] : fan == 2 ? 2900 : 1200;
@@ -126,19 +126,24 @@ static size_t log_room(void)
     return sizeof event_log - logged < W83782D_RECORD_SIZE ? 0 : W83782D_RECORD_SIZE;
 }
 
+/* With the answer of a call that writes a record. */
 static void record_answered(uint8_t answer)
 {
     if (answer == W83782D_ACCEPTED)
         logged += W83782D_RECORD_SIZE;
 }
 
-/* After every event. The chip has one OVT pin for sensors 2 and 3. */
-static void drive_pins(void)
+/* After every event. The chip has one OVT pin for sensors 2 and 3. A refusal says
+ * nothing of the outputs, and the pins stay. */
+static bool drive_pins(void)
 {
     uint32_t outputs = w83782d_outputs(image, sizeof image);
 
+    if (W83782D_OUTPUTS_ANSWER(outputs) != W83782D_ACCEPTED)
+        return false;
     drive("SMI", &smi_pin, W83782D_OUTPUTS_SMI(outputs));
     drive("OVT", &ovt_pin, W83782D_OUTPUTS_OVT_2(outputs) || W83782D_OUTPUTS_OVT_3(outputs));
+    return true;
 }
 
 /* A monitor at power-on with its settings and fan alarms. An alarm leaves the
@@ -178,8 +183,7 @@ static bool start(void)
             return false;
     }
     /* The pins don't outlast a restart: an alarm that stands is shown at once. */
-    drive_pins();
-    return true;
+    return drive_pins();
 }
 
 /* ---- The bus: what the I2C peripheral's interrupts call ---- */
@@ -236,10 +240,12 @@ static void serve(const struct access *access)
 
 /* ---- Events of the cabinet ---- */
 
-static void chassis_opened(void)
+static bool chassis_opened(void)
 {
-    if (w83782d_chassis_opened(image, sizeof image) == W83782D_ACCEPTED)
-        record_answered(w83782d_record_chassis(log_end(), log_room()));
+    if (w83782d_chassis_opened(image, sizeof image) != W83782D_ACCEPTED)
+        return false;
+    record_answered(w83782d_record_chassis(log_end(), log_room()));
+    return true;
 }
 
 /* Once a second. While the bus master has stopped monitoring a sample is refused,
@@ -259,14 +265,22 @@ static bool sample(void)
 }
 
 /* Readings for people, from what the last sample stored. */
-static void show(int second)
+static bool show(int second)
 {
-    uint8_t code = W83782D_READ_BYTE(w83782d_read(image, sizeof image, PLUS_12_CODE));
+    uint16_t plus_12 = w83782d_read(image, sizeof image, PLUS_12_CODE);
     uint32_t sensor_2 = w83782d_temperature(image, sizeof image, 2);
     uint32_t fan_1 = w83782d_speed(image, sizeof image, 1);
     uint32_t outputs = w83782d_outputs(image, sizeof image);
 
-    printf("%d s: +12 at %ld mV, ", second, (long)w83782d_millivolts(PLUS_12, code, 0, 0));
+    /* What a refusal returns beside its answer is 0, and 0 is a reading too. */
+    if (W83782D_READ_ANSWER(plus_12) != W83782D_ACCEPTED ||
+        w83782d_millivolts_answer(PLUS_12, 0, 0) != W83782D_ACCEPTED ||
+        W83782D_TEMPERATURE_ANSWER(sensor_2) != W83782D_ACCEPTED ||
+        W83782D_SPEED_ANSWER(fan_1) != W83782D_ACCEPTED ||
+        W83782D_OUTPUTS_ANSWER(outputs) != W83782D_ACCEPTED)
+        return false;
+    printf("%d s: +12 at %ld mV, ", second,
+           (long)w83782d_millivolts(PLUS_12, W83782D_READ_BYTE(plus_12), 0, 0));
     printf("sensor 2 at %.1f, fan 1 ", W83782D_HALF_DEGREES(sensor_2) / 2.0);
     switch (W83782D_SPEED_KIND(fan_1)) {
     case W83782D_NUMBER:
@@ -279,6 +293,7 @@ static void show(int second)
         printf("too slow");
     }
     printf(", alarms %d\n", W83782D_OUTPUTS_ALARMS(outputs));
+    return true;
 }
 
 /* These seconds of the main loop. */
@@ -290,16 +305,13 @@ static bool run(int first, int last)
         moment = second - 1;
         for (n = 0; n < traffic[moment].count; n++) {
             serve(&traffic[moment].accesses[n]);
-            drive_pins();
+            if (!drive_pins())
+                return false;
         }
-        if (chassis_switch()) {
-            chassis_opened();
-            drive_pins();
-        }
-        if (!sample())
+        if (chassis_switch() && (!chassis_opened() || !drive_pins()))
             return false;
-        drive_pins();
-        show(second);
+        if (!sample() || !drive_pins() || !show(second))
+            return false;
         keep_image(image);
     }
     return true;
@@ -323,7 +335,7 @@ int main(void)
     /* What the log is for: from the same image it gives the same monitor again. */
     replay = w83782d_replay(again, sizeof again, event_log, logged);
     if (W83782D_REPLAY_ANSWER(replay) != W83782D_ACCEPTED)
-        return 1;
+        return 1; /* W83782D_REPLAY_ACCEPTED names the record, counted from 0. */
     printf("log: %lu records, %s\n", (unsigned long)W83782D_REPLAY_ACCEPTED(replay),
            memcmp(again, image, sizeof again) == 0 ? "same image" : "ANOTHER image");
     return 0;

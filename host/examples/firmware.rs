@@ -299,7 +299,7 @@ mod board {
             83
         }
 
-        /// The undivided count; a fan that stands has the largest.
+        /// The undivided count; one that doesn't turn has the largest.
         pub fn count(&self, fan: u8) -> u32 {
             let rpm = match fan {
                 1 => FAN_1_RPM[self.moment],

@@ -1,4 +1,4 @@
-//! The hardware monitor W83782D for Rust firmware: a small safe face over the
+//! The hardware monitor W83782D for Rust firmware: a small safe wrapper over the
 //! proved library.
 //!
 //! A [`Monitor`] answers bus accesses as the chip does, takes samples, sets fan
@@ -49,7 +49,8 @@ pub struct Monitor {
 }
 
 impl Monitor {
-    /// A monitor at power-on.
+    /// A monitor at power-on. No plan is in force and the chassis latch is clear.
+    #[must_use]
     pub fn power_on() -> Monitor {
         let mut image = [0; IMAGE_SIZE];
         // SAFETY: pointer and length are those of `image`, which is lent for the call.
@@ -59,11 +60,13 @@ impl Monitor {
     }
 
     /// The monitor whose image was kept from [`Monitor::image`].
+    #[must_use]
     pub const fn from_image(image: [u8; IMAGE_SIZE]) -> Monitor {
         Monitor { image }
     }
 
     /// The whole state, to keep.
+    #[must_use]
     pub const fn image(&self) -> &[u8; IMAGE_SIZE] {
         &self.image
     }
@@ -95,7 +98,8 @@ impl Monitor {
 
     /// A sample: stores its readings, sets the real-time bits, latches status and
     /// moves OVT. [`Refusal::BadTemperature`] or [`Refusal::NotMonitoring`] leaves
-    /// the monitor as it was.
+    /// the monitor as it was. A measurement of sensor 1 beyond -128 to 127 is held
+    /// at the nearer end by the caller: `130 as i8` is -126, an alarm lost.
     ///
     /// ```
     /// use w83782d::{Monitor, Refusal, Sample, Speed};
@@ -154,7 +158,8 @@ impl Monitor {
     /// From then on an accepted sample sets the fan's real-time bit exactly when
     /// its undivided count is (limit + 1) * divisor or more, until the first of
     /// these: a reset by 40h bit 7, an accepted write that gives a bit of that
-    /// fan's limit or divisor another value, the next accepted plan on that fan.
+    /// fan's limit or divisor another value (either may come in a record too), the
+    /// next accepted plan on that fan.
     ///
     /// ```
     /// use w83782d::{Monitor, Refusal, Sample};
@@ -232,6 +237,7 @@ pub fn millivolts(channel: u8, code: u8, r5: u32, r6: u32) -> Result<i32, Refusa
 }
 
 /// How many of 256 parts a PWM duty byte is on: the byte, and 256 for FFh.
+#[must_use]
 pub fn pwm_parts(duty: u8) -> u16 {
     // SAFETY: takes and returns numbers only.
     unsafe { raw::w83782d_pwm_parts(duty) }

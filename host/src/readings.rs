@@ -30,6 +30,7 @@ pub enum Speed {
 
 impl Monitor {
     /// Standing alarms and output pins.
+    #[must_use]
     pub fn outputs(&self) -> Outputs {
         // SAFETY: pointer and length are those of the image, which is lent for the call.
         let word = unsafe { raw::w83782d_outputs(self.image.as_ptr(), IMAGE_SIZE) };

@@ -12,14 +12,15 @@ pub const RECORD_SIZE: usize = 32;
 pub struct Sample {
     /// Codes of VCOREA, VINR0, +3.3, +5, +12, -12, -5.
     pub codes: [u8; 7],
-    /// Sensor 1 in whole degrees.
+    /// Sensor 1 in whole degrees; a measurement beyond -128 to 127 is held at the
+    /// nearer end.
     pub sensor_1: i8,
     /// Sensor 2 in half degrees, -256 to 255.
     pub sensor_2: i16,
     /// Sensor 3 in half degrees, -256 to 255.
     pub sensor_3: i16,
     /// Undivided counts of fans 1 to 3: 1,350,000 / rpm rounded down, `u32::MAX`
-    /// for a fan that stands.
+    /// for a fan that doesn't turn.
     pub counts: [u32; 3],
 }
 
@@ -40,6 +41,7 @@ pub struct Record([u8; RECORD_SIZE]);
 
 impl Record {
     /// The record of a bus write.
+    #[must_use]
     pub fn write(index: u8, value: u8) -> Record {
         Record::whole(|out| {
             // SAFETY: pointer and length are those of `out`, which is lent for the call.
@@ -48,6 +50,7 @@ impl Record {
     }
 
     /// The record of a bus read.
+    #[must_use]
     pub fn read(index: u8) -> Record {
         Record::whole(|out| {
             // SAFETY: pointer and length are those of `out`, which is lent for the call.
@@ -56,6 +59,7 @@ impl Record {
     }
 
     /// The record of an opened chassis.
+    #[must_use]
     pub fn chassis_opened() -> Record {
         Record::whole(|out| {
             // SAFETY: pointer and length are those of `out`, which is lent for the call.
@@ -97,6 +101,7 @@ impl Record {
     }
 
     /// The record's bytes.
+    #[must_use]
     pub const fn bytes(&self) -> &[u8; RECORD_SIZE] {
         &self.0
     }

@@ -39,6 +39,7 @@ pub enum Refusal {
 
 impl Refusal {
     /// The answer number, 1 to 8.
+    #[must_use]
     pub const fn number(self) -> u8 {
         self as u8
     }

@@ -33,10 +33,18 @@ fn arguments(list: &str) -> impl Iterator<Item = &str> {
 
 // ---- include/w83782d.h
 
-fn declared_in_c() -> Functions {
+/// What is before a function whose answer or value must not be ignored.
+const MARK: &str = "W83782D_MUST_USE ";
+
+/// The header's declarations, without comments and macros.
+fn c_declarations() -> String {
     let header = text("include/w83782d.h");
     let code = without_c_comments(&header);
-    let code = on_one_line(&code, "#").replace("extern \"C\" {", "");
+    on_one_line(&code, "#").replace("extern \"C\" {", "")
+}
+
+fn declared_in_c() -> Functions {
+    let code = c_declarations().replace(MARK, "");
     code.split(';').filter_map(c_declaration).collect()
 }
 
@@ -118,6 +126,18 @@ fn exported() -> Functions {
 fn the_header_and_the_rust_declarations_have_the_same_types() {
     assert!(declared_in_c().len() >= 20);
     assert_eq!(declared_in_c(), declared_in_rust());
+}
+
+#[test]
+fn every_function_of_the_header_is_marked_must_use() {
+    let code = c_declarations();
+    let declarations = code
+        .split(';')
+        .map(str::trim)
+        .filter(|one| one.ends_with(')'));
+    for declaration in declarations {
+        assert!(declaration.starts_with(MARK), "{declaration}");
+    }
 }
 
 #[test]

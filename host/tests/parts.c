@@ -4,6 +4,11 @@
  */
 #include <assert.h>
 
+/* C99 has none: there an array of -1 chars is the error. */
+#if !defined(__cplusplus) && __STDC_VERSION__ < 201112L
+#define static_assert(holds, part) extern char w83782d_part[(holds) ? 1 : -1]
+#endif
+
 #include "w83782d.h"
 
 static_assert(W83782D_READ_ANSWER(0x0100) == W83782D_NO_REGISTER, "read, answer");

@@ -1,3 +1,4 @@
+pub mod Force
 pub mod Lists
 pub mod Writes
 pub mod Held

@@ -16,7 +16,7 @@ use Rattle.planner.specs.declared.Planned.{Planned}
 use Rattle.planner.specs.declared.Planned.the-variants.{Plan, Refused}
 use Rattle.fan_settings.specs.Settings.{Fan, limitIn, divisorIn, settings}
 use Rattle.fan_settings.specs.Claims.{PlanSet}
-use Rattle.alarm.specs.InForce.{Force, none, plan, Machine, Found, found, next, afterAll, PassedOn, rewritten}
+use Rattle.alarm.specs.InForce.{Force, none, plan, Machine, Found, found, next, afterAll, InForce, rewritten}
 
 -- ---- what a call is to a plan in force
 pub data Kind : Type 0 where
@@ -174,5 +174,5 @@ module _ {S C : Type 0} (K : Chip S C) (f : ℕ) where
 pub record AlarmRings {S C : Type 0} (K : Chip S C) : Type 0 where
   pub atEach : (f : ℕ) → 1 ≤ f → f ≤ K .fans → (s : S) → Whole K s → (before : List C) (c : C)
       → ClaimAt K f (afterAll (watched K f) (found s none) before) c
-  -- where each call finds what the one before it left
-  pub passedOn : (f : ℕ) → PassedOn (watched K f)
+  -- by what in force is: from the call that sets a plan until a reset, a rewrite or the next plan, over every list
+  pub inForce : (f : ℕ) → InForce (watched K f)

@@ -1,7 +1,7 @@
 -- How long a plan is in force over a list of calls, for any machine (document 01, "Planning a fan alarm").
 -- It is computed from the calls and their answers alone, never from the registers. decision D-49
 use mathlib.Core.Path.{_≡_}
-use mathlib.Core.Bool.{Bool, false, not, _&&_, _||_}
+use mathlib.Core.Bool.{Bool, true, false, not, _&&_, _||_}
 use mathlib.Core.List.{List, [], _∷_, _++_, foldl}
 use mathlib.Core.Logic.{_≢_}
 use Prim.Native.Nat.{ℕ}
@@ -72,8 +72,17 @@ next M x c = found (M .step (x .state) c) (afterCall M (x .force) c (M .answer (
 abbrev pub afterAll : {S C P : Type 0} → Machine S C P → Found S P → List C → Found S P
 afterAll M x cs = foldl (next M) x cs
 
--- so nothing is lost on the way, nor comes from elsewhere
-pub record PassedOn {S C P : Type 0} (M : Machine S C P) : Type 0 where
+-- what that comes to, call by call
+pub record InForce {S C P : Type 0} (M : Machine S C P) : Type 0 where
+  -- an accepted plan on the fan is in force, whatever was before
+  pub set : (s : S) (p : Force P) (q : P) (c : C) → M .answer s c ≡ 0 → M .sets c ≡ plan q → next M (found s p) c .force ≡ plan q
+  -- any other accepted call ends the plan exactly if it is a reset or a rewrite, and puts none in force
+  pub ended : (s : S) (p : P) (c : C) → M .answer s c ≡ 0 → M .sets c ≡ none → M .ends p c ≡ true → next M (found s (plan p)) c .force ≡ none
+  pub kept : (s : S) (p : P) (c : C) → M .answer s c ≡ 0 → M .sets c ≡ none → M .ends p c ≡ false → next M (found s (plan p)) c .force ≡ plan p
+  pub nothing : (s : S) (c : C) → M .answer s c ≡ 0 → M .sets c ≡ none → next M (found s none) c .force ≡ none
+  -- a refused call ends nothing
+  pub refused : (s : S) (p : Force P) (c : C) → M .answer s c ≢ 0 → next M (found s p) c .force ≡ p
+  -- each call finds what the one before it left, plan and state
   pub first : (x : Found S P) → afterAll M x [] ≡ x
   pub each : (x : Found S P) (before : List C) (c : C) → afterAll M x (before ++ c ∷ []) ≡ next M (afterAll M x before) c
   pub state : (x : Found S P) (cs : List C) → afterAll M x cs .state ≡ foldl (M .step) (x .state) cs

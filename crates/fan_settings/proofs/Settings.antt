@@ -15,6 +15,8 @@ use lib.Seq.{getD-set-same, getD-set-other}
 use Rattle.bits.specs.Bits.{bit, numberOf, mergeOf, changes}
 use Rattle.fields.specs.Fields.{digitsOf, gatherOf, replaceOf, isIn, distinct, inside, apart}
 use Rattle.fields.specs.declared.Place.{Place}
+use Rattle.bits.specs.declared.Bit.{Bit}
+use Rattle.bits.specs.declared.Bit.the-variants.{B4, B5}
 use Rattle.bits.proofs.Every.{every, every-at, every-at2}
 use Rattle.bits.proofs.BitLaws.{choose-ind, bit-lt}
 use Rattle.bits.proofs.ChangeLaws.{or-left, or-right, and-left, and-right, changes-length}
@@ -22,14 +24,31 @@ use Rattle.fields.proofs.FieldLaws.{replace-keeps, gather-gives-back, other-sta
 use Rattle.fan.specs.Count.{exponentOf, valueOf, fromBits}
 use Rattle.fan.specs.Divisors.{divisorAt}
 use Rattle.fan.specs.declared.Divisor.{Divisor}
+use Rattle.fan.specs.declared.Divisor.the-variants.{By1, By128}
 use Rattle.fan.proofs.Divisors.{exponent-lt, from-exponent, exponent-of-bits}
 use Rattle.planner.specs.Plan.{IsPlan, IsPlanned, planAnswer, answerFor}
 use Rattle.planner.specs.Search.{planOf}
 use Rattle.planner.specs.declared.Planned.{Planned}
 use Rattle.planner.specs.declared.Planned.the-variants.{Plan, Refused}
 use Rattle.planner.proofs.Planning.{plan-of-is}
-use Rattle.fan_settings.specs.Settings.{Fan, limitIn, divisorIn, settings, isNoFan, setAnswer, hasCell, isSound, isApart}
+use Rattle.fan_settings.specs.Settings.{Fan, fanAt, limitIn, divisorIn, settings, isNoFan, setAnswer, hasCell, isSound, isApart}
 use Rattle.fan_settings.specs.Claims.{PlanSet}
+
+-- ---- computed: a fan whose divisor bits share their cells with others', as fan 1 of the W83782D has them, is given a plan where
+-- every bit is 1, and where every bit is 0
+abbrev at : ℕ → Bit → Place
+at c b = record { cell = c; bit = b }
+
+abbrev shared : Fan
+shared = fanAt 1 (at 2 B4 ∷ at 2 B5 ∷ at 3 B5 ∷ [])
+
+all-ones : changes (0xFF ∷ 0xFF ∷ 0xFF ∷ 0xFF ∷ []) (settings shared By1 0) ≡ 0xFF ∷ 0x00 ∷ 0xCF ∷ 0xDF ∷ []
+unfolding changes digitsOf mergeOf
+all-ones = refl
+
+all-zeros : changes (0x00 ∷ 0x00 ∷ 0x00 ∷ 0x00 ∷ []) (settings shared By128 254) ≡ 0x00 ∷ 0xFE ∷ 0x30 ∷ 0x20 ∷ []
+unfolding changes digitsOf mergeOf
+all-zeros = refl
 
 -- ---- the tests, part by part
 pub record Sound (n : ℕ) (f : Fan) : Type 0 where

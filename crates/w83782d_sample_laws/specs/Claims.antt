@@ -18,12 +18,13 @@ use Rattle.sensor.specs.declared.Status.{Status}
 use Rattle.sensor.specs.declared.Output.{Output}
 use Rattle.numbers.specs.Numbers.{outside}
 use Rattle.samples.specs.declared.Sample.{Sample}
-use Rattle.w83782d_map.specs.Map.{cells, at, bankAt, indexAt, configuration, interruptStatus1, interruptStatus2, realTimeStatus2}
+use Rattle.w83782d_map.specs.Map.{cells, at, bankAt, indexAt, configuration, interruptStatus1, interruptStatus2, realTimeStatus2, bankCell}
 use Rattle.w83782d_registers.specs.Registers.{shownOf}
+use Rattle.w83782d_latches.specs.Effects.{remoteOf}
 use Rattle.w83782d_bus.specs.Bus.{State, Written, writeOf}
-use Rattle.w83782d_store.specs.Stored.{voltage, fanCount, sensor1Value, bankCell, voltageOf, halvesOf, countOf, isStopped}
+use Rattle.w83782d_store.specs.Stored.{voltage, fanCount, sensor1Value, voltageOf, halvesOf, countOf, isStopped}
 use Rattle.w83782d_conditions.specs.Conditions.{highLimit, lowLimit, fanLimit, sensor1Over, sensor1Hysteresis, ovtProperty, statusMode, outputMode}
-use Rattle.w83782d_sample.specs.Sample.{Source, firstByte, secondByte, realTimeStatus1, markOf, remoteOf, sampleOf}
+use Rattle.w83782d_sample.specs.Sample.{Source, firstByte, secondByte, realTimeStatus1, markOf, sampleOf}
 use Rattle.w83782d_sample.specs.Sample.Source.{rail, sensor, fan, chassis}
 use Rattle.w83782d_outputs.specs.Outputs.{smiMask1, smiMask2, smiOf}
 

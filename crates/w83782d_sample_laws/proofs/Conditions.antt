@@ -5,9 +5,12 @@ use mathlib.Core.Bool.{Bool, true, false}
 use mathlib.Core.List.{List, [], _∷_, map}
 use Prim.Native.Nat.{ℕ, zero, suc, _+_, _*_, _<_, _≤_, max}
 use native.Mathlib.Omega.{arith}
+use borrow.Author.Tests.{lt-ltb}
+use mir.Val.{SFits}
+use mir.Syntax.{w8}
 use lib.Bits.{bitOr}
 use lib.Dec.{ltb, lit<, lit≤}
-use lib.IntN.{ℤ}
+use lib.IntN.{ℤ, pos, negsuc}
 use lib.ListN.{getD, length}
 use lib.Signed.{ltZ}
 use Rattle.bits.specs.Bits.{bit, flagOf}
@@ -31,9 +34,20 @@ use Rattle.w83782d_conditions.specs.Conditions.{highLimit, lowLimit, fanLimit, 
 use Rattle.w83782d_conditions.proofs.Rules.{not-one}
 use Rattle.w83782d_sample.specs.Sample.{Source, firstByte, secondByte, realTimeStatus1, statusAt, outputAt, remoteAfter, condition, latchedBy, verdicts, latchedByte, steppedLatches, sampleOf}
 use Rattle.w83782d_sample.specs.Sample.Source.{rail, sensor, fan, chassis}
-use Rattle.w83782d_sample_laws.specs.Claims.{halvesIn, Stores, cellIn, after, isBeside, isHotter, isColder, isSlower, holdsFor, flagAt, Fits, RealTime, FanRings, statusFor, outputFor, latchesFor, StatusOr, LatchesAfter}
+use Rattle.w83782d_sample_laws.specs.Claims.{halvesIn, Stores, cellIn, after, isBeside, isHotter, isColder, isSlower, holdsFor, flagAt, RealTime, FanRings, statusFor, outputFor, latchesFor, StatusOr, LatchesAfter}
 use Rattle.w83782d_sample_laws.proofs.Stores.{lastOf, cellsOf, isOf, stored-at, stored-other, accepted-state, left-at}
 use Rattle.w83782d_sample_laws.proofs.Answers.{in-range}
+
+-- ---- sensor 1 is a signed byte: -128 to 127
+abbrev pub Fits : Sample → Type 0
+Fits x = holds half8 (x .sensor1) ≡ true
+
+byte-holds : (z : ℤ) → SFits w8 z → holds half8 z ≡ true
+byte-holds (pos n) f = lt-ltb n 128 (f .sfits)
+byte-holds (negsuc n) f = lt-ltb n 128 (f .sfits)
+
+pub fits-byte : (x : Sample) → SFits w8 (x .sensor1) → Fits x
+fits-byte x f = byte-holds (x .sensor1) f
 
 -- ---- levels compare as the signed numbers, and a number's code stands for it
 module _ (h : ℕ) (z : ℤ) (c : ℕ) (e : holds h z ≡ true) (l : c < 2 * h) where
@@ -185,11 +199,11 @@ module _ (s : State) (x : Sample) (w : length (s .registers) ≡ cells) (a : sam
       let e = in-range s x a n h k in
       ap (signedOf half9) (nine-stored n h k ∙ nine-code (halvesOf x n) e) ∙ twos-complement-holds .back half9 (halvesOf x n) e
 
-  pub stores : Stores s x
-  stores =
+  pub stores : Fits x → Stores s x
+  stores fits =
       record {
         codes = codes;
-        sensor1 = λ fits. ap (signedOf half8) (reading sensor1Value (lit< tt)) ∙ twos-complement-holds .back half8 (x .sensor1) fits;
+        sensor1 = ap (signedOf half8) (reading sensor1Value (lit< tt)) ∙ twos-complement-holds .back half8 (x .sensor1) fits;
         remote = halves-are;
         counts = counts;
       }

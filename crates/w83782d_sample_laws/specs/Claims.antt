@@ -12,7 +12,7 @@ use lib.ListN.{length, getD}
 use lib.Signed.{ltZ}
 use Rattle.bits.specs.Bits.{bit, isOn, choose, flagOf}
 use Rattle.bits.specs.Map.{any, bank, Span, span, among}
-use Rattle.analog.specs.Temperature.{half8, half9, holds, signedOf, nineBits}
+use Rattle.analog.specs.Temperature.{half8, half9, signedOf, nineBits}
 use Rattle.sensor.specs.Sensor.{statusOf, outputOf}
 use Rattle.sensor.specs.declared.Status.{Status}
 use Rattle.sensor.specs.declared.Output.{Output}
@@ -114,14 +114,10 @@ holdsFor s x chassis = false
 abbrev pub flagAt : (Source → Bool) → List Source → ℕ → ℕ
 flagAt f b j = flagOf (getD (map f b) j false)
 
--- sensor 1 is a signed byte: -128 to 127
-abbrev pub Fits : Sample → Type 0
-Fits x = holds half8 (x .sensor1) ≡ true
-
 -- "It stores seven codes, three temperatures and three fan counts": the sample's own, the counts divided
 pub record Stores (s : State) (x : Sample) : Type 0 where
   pub codes : (i : ℕ) → i < 7 → cellIn (after s x) (voltage i) ≡ voltageOf x i
-  pub sensor1 : Fits x → signedOf half8 (cellIn (after s x) sensor1Value) ≡ x .sensor1
+  pub sensor1 : signedOf half8 (cellIn (after s x) sensor1Value) ≡ x .sensor1
   pub remote : (n : ℕ) → 2 ≤ n → n ≤ 3 → halvesIn (after s x) (bankCell n) ≡ halvesOf x n
   pub counts : (f : ℕ) → 1 ≤ f → f ≤ 3 → cellIn (after s x) (fanCount f) ≡ countOf (s .registers) x f
 
@@ -235,15 +231,15 @@ pub record StoredOnly (s t : State) (x : Sample) : Type 0 where
   pub smi : smiIn s ≡ smiIn t
   pub smiAfter : smiIn (after s x) ≡ smiIn (after t x)
 
--- ---- all of it, of one sample
+-- ---- all of it, of one sample as its type holds it: sensor 1 is a signed byte, so nothing is asked of it
 pub record SampleClaims (s : State) (x : Sample) : Type 0 where
   pub refused : Refused s x
   pub frame : Frame s (after s x)
   pub stores : sampleOf s x .answer ≡ 0 → Stores s x
   pub fanRings : sampleOf s x .answer ≡ 0 → FanRings s x
-  pub realTime : sampleOf s x .answer ≡ 0 → Fits x → RealTime s x
-  pub statusOr : sampleOf s x .answer ≡ 0 → Fits x → StatusOr s x
-  pub latchesAfter : sampleOf s x .answer ≡ 0 → Fits x → LatchesAfter s x
+  pub realTime : sampleOf s x .answer ≡ 0 → RealTime s x
+  pub statusOr : sampleOf s x .answer ≡ 0 → StatusOr s x
+  pub latchesAfter : sampleOf s x .answer ≡ 0 → LatchesAfter s x
   -- of the state that it finds
   pub smiExactly : SmiExactly s
   pub standby : Standby s

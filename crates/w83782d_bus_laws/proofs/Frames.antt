@@ -63,7 +63,7 @@ module _ (s : State) (w : length (s .registers) ≡ cells) (c v : ℕ) (hc : c <
       }
 
 -- the byte shown depends on its cell and, of 4Fh, on 4Eh
-shown-same : (rs ts : List ℕ) (b : Bool) (k : ℕ) → getD ts k 0 ≡ getD rs k 0 → (k ≡ vendorId → getD ts bankSelect 0 ≡ getD rs bankSelect 0) → shownOf ts b k ≡ shownOf rs b k
+pub shown-same : (rs ts : List ℕ) (b : Bool) (k : ℕ) → getD ts k 0 ≡ getD rs k 0 → (k ≡ vendorId → getD ts bankSelect 0 ≡ getD rs bankSelect 0) → shownOf ts b k ≡ shownOf rs b k
 unfolding shownOf
 shown-same rs ts b k e f = go (ℕ-discrete k vendorId)
   where
@@ -240,7 +240,7 @@ read-chassis rs l c =
     choose-ind (λ (m : Latches). (m .chassis ≡ l .chassis) × (m .sensor1 ≡ l .sensor1)) (releases rs c 2) _ _ (λ _. (refl, refl))
     (λ _. choose-ind (λ (m : Latches). (m .chassis ≡ l .chassis) × (m .sensor1 ≡ l .sensor1)) (releases rs c 3) _ _ (λ _. (refl, refl)) (λ _. (refl, refl)))
 
-read-state : (s : State) (i : ℕ) → presentAt (reachOf (s .registers) i) ≡ true
+pub read-state : (s : State) (i : ℕ) → presentAt (reachOf (s .registers) i) ≡ true
     → readOf s i ≡ read (state (readRegisters (s .registers) (reachOf (s .registers) i)) (readLatches (s .registers) (s .latches) (reachOf (s .registers) i))) 0 (shownIn s (reachOf (s .registers) i))
 unfolding readOf
 read-state s i e = simp e

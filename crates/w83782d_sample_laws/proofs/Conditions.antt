@@ -34,7 +34,8 @@ use Rattle.w83782d_conditions.specs.Conditions.{highLimit, lowLimit, fanLimit, 
 use Rattle.w83782d_conditions.proofs.Rules.{not-one}
 use Rattle.w83782d_sample.specs.Sample.{Source, firstByte, secondByte, realTimeStatus1, statusAt, outputAt, remoteAfter, condition, latchedBy, verdicts, latchedByte, steppedLatches, sampleOf}
 use Rattle.w83782d_sample.specs.Sample.Source.{rail, sensor, fan, chassis}
-use Rattle.w83782d_sample_laws.specs.Claims.{halvesIn, Stores, cellIn, after, isBeside, isHotter, isColder, isSlower, holdsFor, flagAt, RealTime, FanRings, statusFor, outputFor, latchesFor, StatusOr, LatchesAfter}
+use Rattle.w83782d_bus_laws.specs.Claims.{cellIn}
+use Rattle.w83782d_sample_laws.specs.Claims.{halvesIn, Stores, after, isBeside, isHotter, isColder, isSlower, holdsFor, flagAt, RealTime, FanRings, statusFor, outputFor, latchesFor, StatusOr, LatchesAfter}
 use Rattle.w83782d_sample_laws.proofs.Stores.{lastOf, cellsOf, isOf, stored-at, stored-other, accepted-state, left-at}
 use Rattle.w83782d_sample_laws.proofs.Answers.{in-range}
 

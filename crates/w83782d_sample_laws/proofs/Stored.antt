@@ -33,11 +33,12 @@ use Rattle.w83782d_conditions.proofs.Rules.{not-one}
 use Rattle.w83782d_sample.specs.Sample.{statusAt, outputAt, remoteAfter, latchedBy, verdicts, judgedRegisters, steppedLatches, sampleOf}
 use Rattle.w83782d_sample.specs.Sample.Source.{sensor}
 use Rattle.w83782d_outputs.specs.Outputs.{smiMask1, smiMask2, smiOf}
-use Rattle.w83782d_sample_laws.specs.Claims.{Whole, cellIn, after, touched, ruleless, Alike, StoredOnly}
+use Rattle.w83782d_bus_laws.specs.Claims.{Whole, cellIn}
+use Rattle.w83782d_sample_laws.specs.Claims.{after, touched, ruleless, Alike, ReadAlike, StoredOnly}
 use Rattle.w83782d_sample_laws.proofs.Stores.{sample-answer, accepted-state, refused-state, frame}
 
 -- ---- registers alike: a cell that rules name whole, and a bit that a rule names
-abbrev plain : ℕ → Bool
+abbrev pub plain : ℕ → Bool
 plain c = ltb c cells && eqb (ruleless c) 0
 
 abbrev ruled : ℕ → ℕ → Bool
@@ -61,7 +62,7 @@ plain-off : (c j : ℕ) → ruleless c ≡ 0 → isOn (ruleless c) j ≡ false
 plain-off c j e = rw (e, bit-none j)
 
 module _ (s t : State) (ws : Whole s) (wt : Whole t) (a : Alike s t) where
-  same : Same (s .registers) (t .registers)
+  pub same : Same (s .registers) (t .registers)
   same =
       record {
         count = ws .count;
@@ -75,6 +76,9 @@ module _ (s t : State) (ws : Whole s) (wt : Whole t) (a : Alike s t) where
             (is-off (isOn (ruleless c) j) (and-right (ltb c cells) (not (isOn (ruleless c) j)) p));
       }
 
+pub alike : (s t : State) → Same (s .registers) (t .registers) → s .latches ≡ t .latches → Alike s t
+alike s t e l = record { bits = λ c j h hj n. e .bits c j hj (rw (lt-ltb c cells h, n)); latches = l }
+
 -- ---- the same stores to both, of a whole cell or of a bit
 module _ (f : ℕ → ℕ) (rs ts : List ℕ) (k v c : ℕ) (l : length rs ≡ length ts) (e : f (getD rs c 0) ≡ f (getD ts c 0)) where
   set-same : f (getD (set rs k v) c 0) ≡ f (getD (set ts k v) c 0)
@@ -85,7 +89,7 @@ module _ (f : ℕ → ℕ) (rs ts : List ℕ) (k v c : ℕ) (l : length rs ≡ l
       go (yes q) (yes h) = rw q (ap f (getD-set-same rs k v 0 h ∙ sym (getD-set-same ts k v 0 (omega arith))))
       go (yes q) (no h) = rw (set-out rs k v (omega arith), set-out ts k v (omega arith)) e
 
-puts-same : (ws : List Store) (rs ts : List ℕ) → Same rs ts → Same (puts rs ws) (puts ts ws)
+pub puts-same : (ws : List Store) (rs ts : List ℕ) → Same rs ts → Same (puts rs ws) (puts ts ws)
 puts-same [] rs ts e = e
 puts-same (w ∷ ws) rs ts e =
     let l : length rs ≡ length ts = e .count ∙ sym (e .count′) in
@@ -186,7 +190,7 @@ module _ (rs ts : List ℕ) (e : Same rs ts) where
           in-bank (λ c. c + 3 + 1) refl refl,
         )
 
-    interrupt-same : isInterrupt rs n ≡ isInterrupt ts n
+    pub interrupt-same : isInterrupt rs n ≡ isInterrupt ts n
     unfolding isInterrupt ruleless bit
     interrupt-same = rw (e .bits (bankCell n + 2) 1 (lit< tt) (both (λ n. ruled (bankCell n + 2) 1 ≡ true) refl refl n h k))
 
@@ -286,18 +290,15 @@ module _ (s t : State) (x : Sample) (ws : Whole s) (wt : Whole t) (a : Alike s t
           ∙ sym (ap (λ (y : State). y .latches) (accepted-state t x (sym answers ∙ q)))
       go (no n) = rw (refused-state s x n, refused-state t x (λ z. n (answers ∙ z))) (a .latches)
 
-  pub stored-only : StoredOnly s t x
-  stored-only =
+  pub stored-only : ((i : ℕ) → ReadAlike s t i) → StoredOnly s t x
+  stored-only reads =
       record {
         answer = answers;
-        left =
-            record {
-              bits = λ c j h hj e. left-registers .bits c j hj (rw (lt-ltb c cells h, e));
-              latches = left-latches;
-            };
+        left = alike (after s x) (after t x) left-registers left-latches;
         stays = λ c j h hj e. bits-stay s x c j h e;
         smi = smi-same (s .registers) (t .registers) before (s .latches .chassis) ∙ ap (λ (l : Latches). smiOf (t .registers) (l .chassis)) (a .latches);
         smiAfter =
             smi-same (after s x .registers) (after t x .registers) left-registers (after s x .latches .chassis)
             ∙ ap (λ (l : Latches). smiOf (after t x .registers) (l .chassis)) left-latches;
+        reads = reads;
       }

@@ -1,19 +1,19 @@
 -- The methods by value from what the functions in place ensure.
 -- Assumes nothing.
-use mathlib.Core.Path.{_≡_, ap}
+use mathlib.Core.Path.{_≡_, refl, ap}
 use mathlib.Core.List.{List}
-use Prim.Native.Nat.{ℕ}
+use Prim.Native.Nat.{ℕ, _≤_}
 use mathlib.Core.Bool.{false}
 use borrow.Author.Tests.{eq-eqb, ne-eqb}
-use lib.ListN.{length, getD}
+use lib.ListN.{length}
 use Rattle.w83782d_map.specs.Map.{cells}
 use Rattle.w83782d_bus.specs.Bus as Bus
-use Rattle.w83782d_latches.specs.Effects.{powerOnLatches}
+use Rattle.w83782d_registers.proofs.Cases.{both}
+use Rattle.w83782d_latches.specs.Effects.{powerOnLatches, remoteOf}
 use Rattle.w83782d_bus.specs.Bus.{state, powerOn, written, Written, sized, sizedRead, wroteIn, seenIn}
 use Rattle.w83782d_latches.specs.declared.Latches.{Latches}
 use Rattle.w83782d_bus.specs.declared.Wrote.{Wrote}
 use Rattle.w83782d_bus.specs.declared.Seen.{Seen}
-use Rattle.sensor.specs.Sensor.{armed}
 use Rattle.event.specs.declared.Event.{Event}
 use Rattle.samples.specs.declared.Sample.{Sample}
 use Rattle.w83782d_replay.specs.Replay as Replay
@@ -66,15 +66,10 @@ apply-face m ts r e h g =
     ap shown f
 
 -- ---- OVT
-module _ (m : Monitor) (n : ℕ) where
-  pub ovt-2 : n ≡ 2 → getD (m .latches .remote) 0 armed .output .asserted ≡ ovtOf m n
-  unfolding ovtOf
-  ovt-2 e = rw e
+pub ovt-of : (k : ℕ) → 2 ≤ k → k ≤ 3 → (m : Monitor) (n : ℕ) → n ≡ k → remoteOf (m .latches) k .output .asserted ≡ ovtOf m n
+unfolding ovtOf
+ovt-of k h l m n e = rw e (both (λ k. remoteOf (m .latches) k .output .asserted ≡ ovtOf m k) refl refl k h l)
 
-  pub ovt-3 : n ≡ 3 → getD (m .latches .remote) 1 armed .output .asserted ≡ ovtOf m n
-  unfolding ovtOf
-  ovt-3 e = rw e
-
-  pub ovt-none : (n ≡ 2 → ⊥) → (n ≡ 3 → ⊥) → false ≡ ovtOf m n
-  unfolding ovtOf
-  ovt-none p q = simp (ne-eqb n 2 p, ne-eqb n 3 q)
+pub ovt-none : (m : Monitor) (n : ℕ) → (n ≡ 2 → ⊥) → (n ≡ 3 → ⊥) → false ≡ ovtOf m n
+unfolding ovtOf
+ovt-none m n p q = simp (ne-eqb n 2 p, ne-eqb n 3 q)

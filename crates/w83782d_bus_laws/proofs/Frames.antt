@@ -4,7 +4,7 @@ use mathlib.Core.Path.{_≡_, _∙_, ap, sym, refl}
 use mathlib.Core.Bool.{Bool, true, false, not, _&&_, _||_, true≢false, and-false, and-true}
 use mathlib.Core.List.{List, [], _∷_}
 use mathlib.Core.Logic.{_≢_}
-use Prim.Native.Nat.{ℕ, zero, suc, _-_, _<_, max}
+use Prim.Native.Nat.{ℕ, _-_, _<_, _≤_, max}
 use native.Mathlib.Nat.{mod-eq-of-lt}
 use native.Mathlib.Decide.{ℕ-discrete, decLt}
 use native.Mathlib.Omega.{arith}
@@ -21,11 +21,12 @@ use Rattle.bits.proofs.Tables.{tabulate-length, tabulate-at}
 use Rattle.sensor.specs.Sensor.{armed, releasedOf}
 use Rattle.sensor.specs.declared.Remote.{Remote}
 use Rattle.w83782d_latches.specs.declared.Latches.{Latches}
-use Rattle.w83782d_map.specs.Map.{cells, presentAt, writableAt, powerOnAt, keptAt, rows, configuration, interruptStatus1, interruptStatus2, chassisClear, vidFanDivisor, deviceId, bankSelect, vendorId, chipId, realTimeStatus2, remoteValue}
+use Rattle.w83782d_map.specs.Map.{cells, presentAt, writableAt, powerOnAt, keptAt, rows, configuration, interruptStatus1, interruptStatus2, chassisClear, vidFanDivisor, deviceId, bankSelect, vendorId, chipId, realTimeStatus2, bankCell}
 use Rattle.w83782d_map.specs.Access.{writeAnswer, storedBits}
-use Rattle.w83782d_registers.specs.Registers.{cellOf, reachOf, isCommand, resetRegisters, withChassis, shownOf}
-use Rattle.w83782d_latches.specs.Effects.{writtenLatches, readLatches, withReleased, isInterrupt, releases, openedLatches}
+use Rattle.w83782d_registers.specs.Registers.{cellOf, reachOf, isCommand, isInterrupt, resetRegisters, withChassis, shownOf}
+use Rattle.w83782d_latches.specs.Effects.{remoteOf, writtenLatches, readLatches, withReleased, releases, openedLatches}
 use Rattle.w83782d_bus.specs.Bus.{State, state, writtenRegisters, writeOf, readRegisters, readOf, Read, read}
+use Rattle.w83782d_registers.proofs.Cases.{both}
 use Rattle.w83782d_map.proofs.Cells.{answered-cell, present-cell}
 use Rattle.w83782d_bus_laws.proofs.Reached.{write-answer, read-answer}
 use Rattle.w83782d_bus_laws.specs.Claims.{Whole, isOff, cellIn, remoteIn, shownIn, SameMarks, SameLatches, Stores, Shows, Stored, Cleared, Reset, ReadLeaves, ShownBytes, hasRule, OpenedClaims}
@@ -41,10 +42,10 @@ stored-byte c h = ltb→lt (storedBits c) 256 (every-at small cells tt c h)
 
 -- ---- nothing moves in the latches
 same-marks : (s : State) (rs : List ℕ) (b : Bool) → SameMarks s (state rs (record { chassis = b; sensor1 = s .latches .sensor1; remote = s .latches .remote }))
-same-marks s rs b = record { sensor1 = refl; status = λ n h. refl; output = λ n h. refl }
+same-marks s rs b = record { sensor1 = refl; status = λ n h k. refl; output = λ n h k. refl }
 
 same-latches : (s : State) (rs : List ℕ) → SameLatches s (state rs (s .latches))
-same-latches s rs = record { chassis = refl; marks = same-marks s rs (s .latches .chassis); asserted = λ n h. refl }
+same-latches s rs = record { chassis = refl; marks = same-marks s rs (s .latches .chassis); asserted = λ n h k. refl }
 
 -- ---- a store
 module _ (s : State) (w : length (s .registers) ≡ cells) (c v : ℕ) (hc : c < cells) where
@@ -62,7 +63,7 @@ module _ (s : State) (w : length (s .registers) ≡ cells) (c v : ℕ) (hc : c <
       }
 
 -- the byte shown depends on its cell and, of 4Fh, on 4Eh
-shown-same : (rs ts : List ℕ) (b : Bool) (k : ℕ) → getD ts k 0 ≡ getD rs k 0 → (k ≡ vendorId → getD ts bankSelect 0 ≡ getD rs bankSelect 0) → shownOf ts b k ≡ shownOf rs b k
+pub shown-same : (rs ts : List ℕ) (b : Bool) (k : ℕ) → getD ts k 0 ≡ getD rs k 0 → (k ≡ vendorId → getD ts bankSelect 0 ≡ getD rs bankSelect 0) → shownOf ts b k ≡ shownOf rs b k
 unfolding shownOf
 shown-same rs ts b k e f = go (ℕ-discrete k vendorId)
   where
@@ -187,7 +188,7 @@ read-cells rs c k h = go (eqb c interruptStatus1 || eqb c interruptStatus2) (ℕ
     go true (no n) = simp (ne-eqb k c n) (getD-set-other rs c k 0 0 n)
     go false d = simp and-false
 
--- sensor n + 2 after a read of the cell c
+-- sensor 2 or 3 after a read of the cell c
 abbrev after-read : List ℕ → ℕ → ℕ → Remote → Remote
 after-read rs c n r = choose (releases rs c n) (releasedOf r) r
 
@@ -201,32 +202,24 @@ set-remote rs m n = go (ℕ-discrete n m) (decLt m (length rs))
     go (yes q) (no h) = rw (q, eq-eqb m m refl, set-out rs m (releasedOf (getD rs m armed)) (omega arith), List·getD-eq-default rs armed {n = m} (omega arith))
 
 -- at most one of the two is released
-either : (l : Latches) (x y : Bool) (n : ℕ) → n < 2 → (x ≡ true → y ≡ false)
-    → getD (choose x (withReleased l 0) (choose y (withReleased l 1) l) .remote) n armed ≡ choose (choose (eqb n 0) x y) (releasedOf (getD (l .remote) n armed)) (getD (l .remote) n armed)
-either l true y zero k o = set-remote (l .remote) 0 0
-either l true true (suc n) k o = absurd (true≢false (o refl))
-either l true false (suc zero) k o = set-remote (l .remote) 0 1
-either l true false (suc (suc n)) k o = absurd (omega arith)
-either l false true zero k o = set-remote (l .remote) 1 0
-either l false true (suc zero) k o = set-remote (l .remote) 1 1
-either l false true (suc (suc n)) k o = absurd (omega arith)
-either l false false zero k o = refl
-either l false false (suc zero) k o = refl
-either l false false (suc (suc n)) k o = absurd (omega arith)
+either : (l : Latches) (x y : Bool) → (x ≡ true → y ≡ false) → (n : ℕ) → 2 ≤ n → n ≤ 3
+    → remoteOf (choose x (withReleased l 2) (choose y (withReleased l 3) l)) n ≡ choose (choose (eqb n 2) x y) (releasedOf (remoteOf l n)) (remoteOf l n)
+either l true true o = absurd (true≢false (o refl))
+either l true false o = both (λ n. remoteOf (withReleased l 2) n ≡ choose (choose (eqb n 2) true false) (releasedOf (remoteOf l n)) (remoteOf l n)) (set-remote (l .remote) 0 0) (set-remote (l .remote) 0 1)
+either l false true o = both (λ n. remoteOf (withReleased l 3) n ≡ choose (choose (eqb n 2) false true) (releasedOf (remoteOf l n)) (remoteOf l n)) (set-remote (l .remote) 1 0) (set-remote (l .remote) 1 1)
+either l false false o = both (λ n. remoteOf l n ≡ choose (choose (eqb n 2) false false) (releasedOf (remoteOf l n)) (remoteOf l n)) refl refl
 
-only-one : (rs : List ℕ) (c : ℕ) → releases rs c 0 ≡ true → releases rs c 1 ≡ false
-only-one rs c e = rw (eqb-true c (remoteValue 0) (and-left (eqb c (remoteValue 0)) (isInterrupt rs 0) e))
+only-one : (rs : List ℕ) (c : ℕ) → releases rs c 2 ≡ true → releases rs c 3 ≡ false
+only-one rs c e = rw (eqb-true c (bankCell 2) (and-left (eqb c (bankCell 2)) (isInterrupt rs 2) e))
 
-which : (rs : List ℕ) (c n : ℕ) → n < 2 → choose (eqb n 0) (releases rs c 0) (releases rs c 1) ≡ releases rs c n
-which rs c zero h = refl
-which rs c (suc zero) h = refl
-which rs c (suc (suc n)) h = absurd (omega arith)
+which : (rs : List ℕ) (c n : ℕ) → 2 ≤ n → n ≤ 3 → choose (eqb n 2) (releases rs c 2) (releases rs c 3) ≡ releases rs c n
+which rs c = both (λ n. choose (eqb n 2) (releases rs c 2) (releases rs c 3) ≡ releases rs c n) refl refl
 
-read-remote : (rs : List ℕ) (l : Latches) (c n : ℕ) → n < 2 → getD (readLatches rs l c .remote) n armed ≡ after-read rs c n (getD (l .remote) n armed)
+read-remote : (rs : List ℕ) (l : Latches) (c n : ℕ) → 2 ≤ n → n ≤ 3 → remoteOf (readLatches rs l c) n ≡ after-read rs c n (remoteOf l n)
 unfolding readLatches
-read-remote rs l c n k =
-    either l (releases rs c 0) (releases rs c 1) n k (only-one rs c)
-    ∙ ap (λ (b : Bool). choose b (releasedOf (getD (l .remote) n armed)) (getD (l .remote) n armed)) (which rs c n k)
+read-remote rs l c n h k =
+    either l (releases rs c 2) (releases rs c 3) (only-one rs c) n h k
+    ∙ ap (λ (b : Bool). choose b (releasedOf (remoteOf l n)) (remoteOf l n)) (which rs c n h k)
 
 -- a release moves no mark
 released-status : (b : Bool) (r : Remote) → choose b (releasedOf r) r .status ≡ r .status
@@ -244,10 +237,10 @@ released-asserted false r = refl
 read-chassis : (rs : List ℕ) (l : Latches) (c : ℕ) → (readLatches rs l c .chassis ≡ l .chassis) × (readLatches rs l c .sensor1 ≡ l .sensor1)
 unfolding readLatches
 read-chassis rs l c =
-    choose-ind (λ (m : Latches). (m .chassis ≡ l .chassis) × (m .sensor1 ≡ l .sensor1)) (releases rs c 0) _ _ (λ _. (refl, refl))
-    (λ _. choose-ind (λ (m : Latches). (m .chassis ≡ l .chassis) × (m .sensor1 ≡ l .sensor1)) (releases rs c 1) _ _ (λ _. (refl, refl)) (λ _. (refl, refl)))
+    choose-ind (λ (m : Latches). (m .chassis ≡ l .chassis) × (m .sensor1 ≡ l .sensor1)) (releases rs c 2) _ _ (λ _. (refl, refl))
+    (λ _. choose-ind (λ (m : Latches). (m .chassis ≡ l .chassis) × (m .sensor1 ≡ l .sensor1)) (releases rs c 3) _ _ (λ _. (refl, refl)) (λ _. (refl, refl)))
 
-read-state : (s : State) (i : ℕ) → presentAt (reachOf (s .registers) i) ≡ true
+pub read-state : (s : State) (i : ℕ) → presentAt (reachOf (s .registers) i) ≡ true
     → readOf s i ≡ read (state (readRegisters (s .registers) (reachOf (s .registers) i)) (readLatches (s .registers) (s .latches) (reachOf (s .registers) i))) 0 (shownIn s (reachOf (s .registers) i))
 unfolding readOf
 read-state s i e = simp e
@@ -271,10 +264,10 @@ leaves s i w a =
       marks =
           record {
             sensor1 = read-chassis (s .registers) (s .latches) c .1;
-            status = λ n k. ap (λ (r : Remote). r .status) (read-remote (s .registers) (s .latches) c n k) ∙ released-status (releases (s .registers) c n) (remoteIn s n);
-            output = λ n k. ap (λ (r : Remote). r .output .mark) (read-remote (s .registers) (s .latches) c n k) ∙ released-mark (releases (s .registers) c n) (remoteIn s n);
+            status = λ n h k. ap (λ (r : Remote). r .status) (read-remote (s .registers) (s .latches) c n h k) ∙ released-status (releases (s .registers) c n) (remoteIn s n);
+            output = λ n h k. ap (λ (r : Remote). r .output .mark) (read-remote (s .registers) (s .latches) c n h k) ∙ released-mark (releases (s .registers) c n) (remoteIn s n);
           };
-      asserted = λ n k. ap (λ (r : Remote). r .output .asserted) (read-remote (s .registers) (s .latches) c n k) ∙ released-asserted (releases (s .registers) c n) (remoteIn s n);
+      asserted = λ n h k. ap (λ (r : Remote). r .output .asserted) (read-remote (s .registers) (s .latches) c n h k) ∙ released-asserted (releases (s .registers) c n) (remoteIn s n);
     })
 
 -- ---- what a read shows: masks of the cell, bit by bit
@@ -346,4 +339,4 @@ module _ (s : State) where
 
 -- ---- a chassis event
 pub opened : (s : State) → OpenedClaims s (state (s .registers) (openedLatches (s .latches)))
-opened s = record { registers = refl; chassis = refl; marks = same-marks s (s .registers) true; asserted = λ n h. refl }
+opened s = record { registers = refl; chassis = refl; marks = same-marks s (s .registers) true; asserted = λ n h k. refl }

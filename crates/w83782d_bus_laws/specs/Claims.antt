@@ -16,7 +16,7 @@ use Rattle.sensor.specs.declared.Mark.the-variants.{Armed}
 use Rattle.w83782d_map.specs.Map.{cells, presentAt, writableAt, powerOnAt, keptAt, configuration, interruptStatus1, interruptStatus2, chassisClear, vidFanDivisor, deviceId, bankSelect, vendorId, chipId, realTimeStatus2}
 use Rattle.w83782d_map.specs.Access.{storedBits}
 use Rattle.w83782d_registers.specs.Registers.{bankOf, reachOf, isCommand, shownOf}
-use Rattle.w83782d_latches.specs.Effects.{latches, releases}
+use Rattle.w83782d_latches.specs.Effects.{latches, remoteOf, releases}
 use Rattle.w83782d_bus.specs.Bus.{State, state, writeOf, readOf}
 
 -- ---- every state of the monitor: 112 cells, each a byte, and any latches
@@ -33,8 +33,9 @@ cellIn s k = getD (s .registers) k 0
 abbrev pub shownIn : State → ℕ → ℕ
 shownIn s c = shownOf (s .registers) (s .latches .chassis) c
 
+-- sensor 2 or 3
 abbrev pub remoteIn : State → ℕ → Remote
-remoteIn s n = getD (s .latches .remote) n armed
+remoteIn s n = remoteOf (s .latches) n
 
 -- ---- answers
 
@@ -100,13 +101,13 @@ AbsentBank s i v = isAbsent (bankOf (s .registers)) ≡ true → 0x50 ≤ i → 
 -- ---- what stays: each latch and mark, by name
 pub record SameMarks (s t : State) : Type 0 where
   pub sensor1 : t .latches .sensor1 ≡ s .latches .sensor1
-  pub status : (n : ℕ) → n < 2 → remoteIn t n .status ≡ remoteIn s n .status
-  pub output : (n : ℕ) → n < 2 → remoteIn t n .output .mark ≡ remoteIn s n .output .mark
+  pub status : (n : ℕ) → 2 ≤ n → n ≤ 3 → remoteIn t n .status ≡ remoteIn s n .status
+  pub output : (n : ℕ) → 2 ≤ n → n ≤ 3 → remoteIn t n .output .mark ≡ remoteIn s n .output .mark
 
 pub record SameLatches (s t : State) : Type 0 where
   pub chassis : t .latches .chassis ≡ s .latches .chassis
   pub marks : SameMarks s t
-  pub asserted : (n : ℕ) → n < 2 → remoteIn t n .output .asserted ≡ remoteIn s n .output .asserted
+  pub asserted : (n : ℕ) → 2 ≤ n → n ≤ 3 → remoteIn t n .output .asserted ≡ remoteIn s n .output .asserted
 
 -- ---- an accepted write that is neither a reset nor a chassis clear, to the cell c
 -- changes only its own register's writable bits (bit 7 of 40h and 46h, a command, is not stored), gives each of those the
@@ -148,7 +149,7 @@ pub record Leaves (s t : State) (c : ℕ) : Type 0 where
   pub cells : (k : ℕ) → cellIn t k ≡ choose (eqb k c && (eqb c interruptStatus1 || eqb c interruptStatus2)) 0 (cellIn s k)
   pub chassis : t .latches .chassis ≡ s .latches .chassis
   pub marks : SameMarks s t
-  pub asserted : (n : ℕ) → n < 2 → remoteIn t n .output .asserted ≡ choose (releases (s .registers) c n) false (remoteIn s n .output .asserted)
+  pub asserted : (n : ℕ) → 2 ≤ n → n ≤ 3 → remoteIn t n .output .asserted ≡ choose (releases (s .registers) c n) false (remoteIn s n .output .asserted)
 
 abbrev pub ReadLeaves : State → ℕ → Type 0
 ReadLeaves s i = readOf s i .answer ≡ 0 → Leaves s (readOf s i .state) (reachOf (s .registers) i)
@@ -205,4 +206,4 @@ pub record OpenedClaims (s t : State) : Type 0 where
   pub registers : t .registers ≡ s .registers
   pub chassis : t .latches .chassis ≡ true
   pub marks : SameMarks s t
-  pub asserted : (n : ℕ) → n < 2 → remoteIn t n .output .asserted ≡ remoteIn s n .output .asserted
+  pub asserted : (n : ℕ) → 2 ≤ n → n ≤ 3 → remoteIn t n .output .asserted ≡ remoteIn s n .output .asserted

@@ -10,8 +10,9 @@ use Rattle.fan.specs.Count.{overLimit}
 use Rattle.analog.specs.Temperature.{half8, half9, levelOf, nineBits}
 use Rattle.sensor.specs.declared.Mode.{Mode}
 use Rattle.sensor.specs.declared.Mode.the-variants.{Comparator, Interrupt}
-use Rattle.w83782d_map.specs.Map.{at}
-use Rattle.w83782d_store.specs.Stored.{voltage, fanCount, sensor1Value, bankCell}
+use Rattle.w83782d_map.specs.Map.{at, bankCell}
+use Rattle.w83782d_registers.specs.Registers.{isInterrupt}
+use Rattle.w83782d_store.specs.Stored.{voltage, fanCount, sensor1Value}
 use Rattle.w83782d_conditions.specs.declared.Stand.{Stand}
 use Rattle.w83782d_conditions.specs.declared.Compared.{Compared}
 
@@ -75,9 +76,9 @@ modeIf false = Interrupt
 unfoldable pub statusMode : List ℕ → ℕ → Mode
 statusMode rs n = choose (eqb n 1) (modeIf (eqb (getD rs sensor1Hysteresis 0) 127)) (modeIf (isOn (getD rs ovtProperty 0) 6))
 
--- "OVT, for sensors 2 and 3 each by its own 52h bit 1. 0, comparator"
+-- OVT of sensors 2 and 3, by the mode that a read releases by
 unfoldable pub outputMode : List ℕ → ℕ → Mode
-outputMode rs n = modeIf (not (isOn (getD rs (bankCell n + 2) 0) 1))
+outputMode rs n = modeIf (not (isInterrupt rs n))
 
 -- ---- what a sample finds: where each sensor stands, the bits of rails and fans in both bytes (the sensors' off), the OVT modes
 unfoldable pub standOf : List ℕ → ℕ → Stand

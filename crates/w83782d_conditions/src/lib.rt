@@ -6,8 +6,8 @@ ghost use Prim.Native.Nat.{_<_, _≤_, _+_};
 ghost use lib.ListN.{length};
 ghost use Rattle.bits.specs.Bits.{word};
 ghost use Rattle.w83782d_map.specs.Map.{cells};
-ghost use Rattle.w83782d_conditions.specs.Conditions.{isOutside, halfLevelAt, isSlow, modeIf, standOf};
-ghost use Rattle.w83782d_conditions.specs.Parts.{remoteStand, outputModeAt, comparedIn};
+ghost use Rattle.w83782d_conditions.specs.Conditions.{isOutside, halfLevelAt, isSlow, modeIf, outputMode, standOf};
+ghost use Rattle.w83782d_conditions.specs.Parts.{comparedIn};
 use analog::half_level;
 use analog::whole_level;
 use bits::Bit;
@@ -16,20 +16,18 @@ use bits::pack;
 use fan::Divided;
 use fan::rings;
 use sensor::Mode;
-use w83782d_map::BANK_1;
-use w83782d_map::BANK_2;
 use w83782d_map::CELLS;
 use w83782d_map::IRQ_OVT;
 use w83782d_map::SENSOR_1_HYSTERESIS;
 use w83782d_map::SENSOR_1_OVER;
+use w83782d_registers::bank_cell;
+use w83782d_registers::is_interrupt;
 
 // ---- Cells
 
 const SENSOR_1: usize = 0x27 - 0x20;
 
 // Within the banks of sensors 2 and 3.
-const CONFIGURED: usize = 2;
-
 const HYSTERESIS: usize = 3;
 
 const OVER: usize = 5;
@@ -118,11 +116,11 @@ fn mode_if(comparator: bool) -> Mode
     Mode::Interrupt
 }
 
-fn output_mode(s: &[u8], bank: usize) -> Mode
-    requires { ⌜ (length (now s) ≡ cells) × (bank ≤ 80) ⌝ }
-    ensures { λ r. ⌜ r ≡ outputModeAt (now (s .entry)) bank ⌝ }
+// The OVT mode of sensor 2 or 3.
+fn output_mode(s: &[u8], sensor: usize) -> Mode
+    ensures { λ r. ⌜ r ≡ outputMode (now (s .entry)) sensor ⌝ }
 {
-    mode_if(!is_on(s[bank + CONFIGURED], Bit::B1))
+    mode_if(!is_interrupt(s, sensor))
 }
 
 // ---- Sensors
@@ -149,11 +147,12 @@ fn sensor1_stand(s: &[u8]) -> Stand
     }
 }
 
-// Sensor 2 or 3, by the first cell of its bank.
-fn remote_stand(s: &[u8], bank: usize) -> Stand
-    requires { ⌜ (length (now s) ≡ cells) × (bank ≤ 80) ⌝ }
-    ensures { λ r. ⌜ r ≡ remoteStand (now (s .entry)) bank ⌝ }
+// Sensor 2 or 3.
+fn remote_stand(s: &[u8], sensor: usize) -> Stand
+    requires { ⌜ (length (now s) ≡ cells) × (2 ≤ sensor) ⌝ }
+    ensures { λ r. ⌜ r ≡ standOf (now (s .entry)) sensor ⌝ }
 {
+    let bank = bank_cell(sensor);
     let t = half_level_at(s, bank);
     let over = half_level_at(s, bank + OVER);
     let hysteresis = half_level_at(s, bank + HYSTERESIS);
@@ -201,10 +200,10 @@ pub fn compare(s: &[u8]) -> Compared
     let first = first_byte(s);
     let second = second_byte(s);
     let one = sensor1_stand(s);
-    let two = remote_stand(s, BANK_1);
-    let three = remote_stand(s, BANK_2);
-    let output2 = output_mode(s, BANK_1);
-    let output3 = output_mode(s, BANK_2);
+    let two = remote_stand(s, 2);
+    let three = remote_stand(s, 3);
+    let output2 = output_mode(s, 2);
+    let output3 = output_mode(s, 3);
     Compared {
         first,
         second,

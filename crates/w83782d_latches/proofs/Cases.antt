@@ -1,14 +1,15 @@
 -- The definitions of Effects.antt by their cases, over plain variables.
 -- Assumes nothing.
-use mathlib.Core.Path.{_≡_, _∙_}
+use mathlib.Core.Path.{_≡_, refl, _∙_}
 use mathlib.Core.Bool.{Bool, true, false, _&&_}
-use Prim.Native.Nat.{ℕ}
+use Prim.Native.Nat.{ℕ, _≤_}
 use mathlib.Core.List.{List}
 use borrow.Author.Tests.{ne-eqb}
 use lib.Dec.{eqb}
-use lib.ListN.{getD}
 use Rattle.bits.specs.Bits.{choose, isOn}
-use Rattle.w83782d_map.specs.Map.{configuration, chassisClear, remoteValue}
+use Rattle.w83782d_map.specs.Map.{configuration, chassisClear, bankCell}
+use Rattle.w83782d_registers.specs.Registers.{isInterrupt}
+use Rattle.w83782d_registers.proofs.Cases.{both}
 use Rattle.w83782d_latches.specs.declared.Latches.{Latches}
 use Rattle.w83782d_latches.specs.Effects.{latches, resetLatches, writtenLatches, withReleased, readLatches}
 
@@ -34,15 +35,15 @@ acknowledge b r l m k e t f = simp (← e, t, f)
 pub acknowledge-not : (b r : Bool) (l k : Latches) → b ≡ r → b ≡ false → l ≡ choose r k l
 acknowledge-not b r l k e t = simp (← e, t)
 
-module _ (rs : List ℕ) (l : Latches) (c : ℕ) where
-  pub releases-2 : (y : ℕ) (m : Latches) → c ≡ remoteValue 0 → y ≡ getD rs 66 0 → m ≡ choose (isOn y 1) (withReleased l 0) l → m ≡ readLatches rs l c
-  unfolding readLatches
-  releases-2 y m e g f = f ∙ rw (g, e)
+-- of 50h of a sensor's bank
+pub read-value : (n : ℕ) → 2 ≤ n → n ≤ 3 → (rs : List ℕ) (l m : Latches) (c : ℕ) → c ≡ bankCell n
+    → m ≡ choose (isInterrupt rs n) (withReleased l n) l → m ≡ readLatches rs l c
+unfolding readLatches
+read-value n h k rs l m c e f =
+    f
+    ∙ rw e (both (λ n. choose (isInterrupt rs n) (withReleased l n) l ≡ readLatches rs l (bankCell n)) refl refl n h k)
 
-  pub releases-3 : (y : ℕ) (m : Latches) → c ≡ remoteValue 1 → y ≡ getD rs 82 0 → m ≡ choose (isOn y 1) (withReleased l 1) l → m ≡ readLatches rs l c
-  unfolding readLatches
-  releases-3 y m e g f = f ∙ rw (g, e)
-
-  pub releases-none : (c ≡ remoteValue 0 → ⊥) → (c ≡ remoteValue 1 → ⊥) → l ≡ readLatches rs l c
-  unfolding readLatches
-  releases-none m n = simp (ne-eqb c (remoteValue 0) m, ne-eqb c (remoteValue 1) n)
+-- and of any other cell
+pub read-other : (rs : List ℕ) (l : Latches) (c : ℕ) → (c ≡ bankCell 2 → ⊥) → (c ≡ bankCell 3 → ⊥) → l ≡ readLatches rs l c
+unfolding readLatches
+read-other rs l c m n = simp (ne-eqb c (bankCell 2) m, ne-eqb c (bankCell 3) n)

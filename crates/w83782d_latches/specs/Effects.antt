@@ -1,7 +1,7 @@
 -- The latches by power-on, reset, a write, a read and a chassis event (document 01, "Register map", "What a sample does").
 use mathlib.Core.Bool.{Bool, true, false, _&&_}
 use mathlib.Core.List.{List, [], _∷_}
-use Prim.Native.Nat.{ℕ}
+use Prim.Native.Nat.{ℕ, _-_}
 use lib.Dec.{eqb}
 use lib.ListN.{getD, set}
 use Rattle.bits.specs.Bits.{choose, isOn}
@@ -9,11 +9,16 @@ use Rattle.sensor.specs.Sensor.{armed, releasedOf}
 use Rattle.sensor.specs.declared.Mark.{Mark}
 use Rattle.sensor.specs.declared.Mark.the-variants.{Armed}
 use Rattle.sensor.specs.declared.Remote.{Remote}
-use Rattle.w83782d_map.specs.Map.{configuration, chassisClear, remoteValue, remoteConfiguration}
+use Rattle.w83782d_map.specs.Map.{configuration, chassisClear, bankCell}
+use Rattle.w83782d_registers.specs.Registers.{isInterrupt}
 use Rattle.w83782d_latches.specs.declared.Latches.{Latches}
 
 abbrev pub latches : Bool → Mark → List Remote → Latches
 latches c m rs = record { chassis = c; sensor1 = m; remote = rs }
+
+-- sensor 2 or 3
+abbrev pub remoteOf : Latches → ℕ → Remote
+remoteOf l n = getD (l .remote) (n - 2) armed
 
 -- ---- power-on and reset
 abbrev pub powerOnLatches : Latches
@@ -33,19 +38,15 @@ writtenLatches l c v =
 
 -- ---- a read
 
--- the OVT mode of sensors 2 and 3, "each by its own 52h bit 1. 0, comparator", "1, interrupt"
-abbrev pub isInterrupt : List ℕ → ℕ → Bool
-isInterrupt rs n = isOn (getD rs (remoteConfiguration n) 0) 1
-
 abbrev pub withReleased : Latches → ℕ → Latches
-withReleased l n = latches (l .chassis) (l .sensor1) (set (l .remote) n (releasedOf (getD (l .remote) n armed)))
+withReleased l n = latches (l .chassis) (l .sensor1) (set (l .remote) (n - 2) (releasedOf (remoteOf l n)))
 
 -- in interrupt mode "reading that bank's 50h releases". decision D-11
 abbrev pub releases : List ℕ → ℕ → ℕ → Bool
-releases rs c n = eqb c (remoteValue n) && isInterrupt rs n
+releases rs c n = eqb c (bankCell n) && isInterrupt rs n
 
 unfoldable pub readLatches : List ℕ → Latches → ℕ → Latches
-readLatches rs l c = choose (releases rs c 0) (withReleased l 0) (choose (releases rs c 1) (withReleased l 1) l)
+readLatches rs l c = choose (releases rs c 2) (withReleased l 2) (choose (releases rs c 3) (withReleased l 3) l)
 
 -- ---- a chassis event: "set by a chassis event even in standby". decision D-10
 abbrev pub openedLatches : Latches → Latches

@@ -1,11 +1,10 @@
 // What the registers do not hold: the chassis latch and the sensors' marks and outputs, by value, and what power-on, a reset,
 // a write, a read and a chassis event leave of them.
 ghost use mathlib.Core.Path.{_≡_};
-ghost use Prim.Native.Nat.{_<_};
-ghost use Rattle.bits.specs.Bits.{choose, isOn};
+ghost use Prim.Native.Nat.{_≤_};
+ghost use Rattle.bits.specs.Bits.{choose};
+ghost use Rattle.w83782d_registers.specs.Registers.{isInterrupt};
 ghost use Rattle.w83782d_latches.specs.Effects.{powerOnLatches, resetLatches, writtenLatches, withReleased, readLatches, openedLatches};
-use bits::Bit;
-use bits::is_on;
 use sensor::Mark;
 use sensor::Remote;
 use w83782d_map::BANK_1;
@@ -13,15 +12,12 @@ use w83782d_map::BANK_2;
 use w83782d_map::CHASSIS_CLEAR;
 use w83782d_map::CONFIGURATION;
 use w83782d_registers::is_command;
+use w83782d_registers::is_interrupt;
 
-// 50h and 52h of the banks of sensors 2 and 3.
+// 50h of the banks of sensors 2 and 3.
 const SENSOR_2_VALUE: usize = BANK_1;
 
-const SENSOR_2_CONFIGURATION: usize = BANK_1 + 2;
-
 const SENSOR_3_VALUE: usize = BANK_2;
-
-const SENSOR_3_CONFIGURATION: usize = BANK_2 + 2;
 
 // What the registers do not hold: the chassis latch, the status mark of sensor 1, and sensors 2 and 3.
 pub struct Latches {
@@ -65,11 +61,12 @@ impl Latches {
         self
     }
 
-    // The OVT output of sensor 2 or 3, remote 0 or 1, released.
-    fn released(mut self, n: usize) -> Self
-        requires { ⌜ n < 2 ⌝ }
-        ensures { λ r. ⌜ r ≡ withReleased self n ⌝ }
+    // The OVT output of sensor 2 or 3 released.
+    fn released(mut self, sensor: usize) -> Self
+        requires { ⌜ (2 ≤ sensor) × (sensor ≤ 3) ⌝ }
+        ensures { λ r. ⌜ r ≡ withReleased self sensor ⌝ }
     {
+        let n = sensor - 2;
         let remote = self.remote[n];
         self.remote[n] = remote.released();
         self
@@ -90,13 +87,13 @@ pub fn write_latches(mut l: Latches, cell: usize, value: u8) -> Latches
     l
 }
 
-// Sensor 2 or 3, remote 0 or 1, after a read of its value: in interrupt mode OVT is released.
-fn acknowledged(l: Latches, n: usize, configuration: u8) -> Latches
-    requires { ⌜ n < 2 ⌝ }
-    ensures { λ r. ⌜ r ≡ choose (isOn configuration 1) (withReleased l n) l ⌝ }
+// After a read of the value of sensor 2 or 3: in interrupt mode its OVT output is released.
+fn acknowledged(s: &[u8], l: Latches, sensor: usize) -> Latches
+    requires { ⌜ (2 ≤ sensor) × (sensor ≤ 3) ⌝ }
+    ensures { λ r. ⌜ r ≡ choose (isInterrupt (now (s .entry)) sensor) (withReleased l sensor) l ⌝ }
 {
-    if is_on(configuration, Bit::B1) {
-        return l.released(n);
+    if is_interrupt(s, sensor) {
+        return l.released(sensor);
     }
     l
 }
@@ -106,8 +103,8 @@ pub fn read_latches(s: &[u8], l: Latches, cell: usize) -> Latches
     ensures { λ r. ⌜ r ≡ readLatches (now (s .entry)) l cell ⌝ }
 {
     match cell {
-        SENSOR_2_VALUE => acknowledged(l, 0, bits::cell(s, SENSOR_2_CONFIGURATION)),
-        SENSOR_3_VALUE => acknowledged(l, 1, bits::cell(s, SENSOR_3_CONFIGURATION)),
+        SENSOR_2_VALUE => acknowledged(s, l, 2),
+        SENSOR_3_VALUE => acknowledged(s, l, 3),
         _ => l,
     }
 }

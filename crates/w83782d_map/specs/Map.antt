@@ -168,9 +168,6 @@ chipId = at 0x58
 abbrev pub realTimeStatus2 : ℕ
 realTimeStatus2 = atBank 4 0x5A
 
--- sensors 2 and 3 are remotes 0 and 1, in banks 1 and 2
-abbrev pub remoteValue : ℕ → ℕ
-remoteValue n = atBank (n + 1) 0x50
-
-abbrev pub remoteConfiguration : ℕ → ℕ
-remoteConfiguration n = atBank (n + 1) 0x52
+-- 50h of the bank of sensor 2 or 3, "bank 1, 2"; on from there: 52h its configuration, 53h its hysteresis, 55h its over limit
+abbrev pub bankCell : ℕ → ℕ
+bankCell n = choose (eqb n 2) (atBank 1 0x50) (atBank 2 0x50)

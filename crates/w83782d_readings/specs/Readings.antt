@@ -14,8 +14,8 @@ use Rattle.voltages.specs.Readings.{millivoltsOf}
 use Rattle.analog.specs.Temperature.{half9, signedOf, nineBits}
 use Rattle.analog.specs.Pwm.{pwmParts}
 use Rattle.voltages.specs.declared.Reading.{Reading}
-use Rattle.w83782d_map.specs.Map.{at}
-use Rattle.w83782d_store.specs.Stored.{voltage, sensor1Value, bankCell, fanCount, divisorOf}
+use Rattle.w83782d_map.specs.Map.{at, bankCell}
+use Rattle.w83782d_store.specs.Stored.{voltage, sensor1Value, fanCount, divisorOf}
 use Rattle.w83782d_readings.specs.declared.Temperature.{Temperature}
 use Rattle.w83782d_readings.specs.declared.Temperature.the-variants as temperature
 use Rattle.w83782d_readings.specs.declared.Duty.{Duty}

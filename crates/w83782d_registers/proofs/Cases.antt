@@ -4,7 +4,7 @@ use mathlib.Core.Path.{_≡_, ap, sym, _∙_}
 use mathlib.Core.Bool.{Bool, true, false, not, _&&_, true≢false, false≢true}
 use mathlib.Core.List.{List, [], _∷_}
 use mathlib.Core.Logic.{inl, inr, ⊎-elim}
-use Prim.Native.Nat.{ℕ, suc, _+_, _-_, _<_, _≤_}
+use Prim.Native.Nat.{ℕ, zero, suc, _+_, _-_, _<_, _≤_}
 use native.Mathlib.Omega.{arith}
 use borrow.Author.Tests.{eq-eqb, ne-eqb, lt-ltb, le-ltb, le-leb, lt-leb}
 use lib.Bits.{bitAnd, bitOr}
@@ -14,8 +14,8 @@ use Rattle.bits.specs.Bits.{isOn}
 use types.Run.{OneOf}
 use Rattle.bits.proofs.Match.{NoKey}
 use Rattle.bits.proofs.Tables.{tabulate-length, tabulate-at, over, over-next, over-at}
-use Rattle.w83782d_map.specs.Map.{cells, powerOnAt, keptAt, configuration, interruptStatus2, chassisClear, vidFanDivisor, deviceId, bankSelect, vendorId, chipId, realTimeStatus2}
-use Rattle.w83782d_registers.specs.Registers.{cellOf, reachOf, withChassis, vendorByte, shownOf}
+use Rattle.w83782d_map.specs.Map.{cells, powerOnAt, keptAt, configuration, interruptStatus2, chassisClear, vidFanDivisor, deviceId, bankSelect, vendorId, chipId, realTimeStatus2, bankCell}
+use Rattle.w83782d_registers.specs.Registers.{cellOf, reachOf, isInterrupt, withChassis, vendorByte, shownOf}
 use Rattle.w83782d_registers.specs.Parts.{restoredByte, restoredRegisters, restoredIn}
 
 -- ---- the cell of an index
@@ -160,3 +160,23 @@ module _ (rs : List ℕ) (chassis : Bool) (c x : ℕ) (e : x ≡ getD rs c 0) wh
         ne-eqb c realTimeStatus2 (λ e. n .0 .0 .0 .0 .0 .1 (inr e)),
         ne-eqb c configuration (n .0 .0 .0 .0 .0 .0 .1),
       )
+
+-- ---- sensors 2 and 3
+
+-- what holds of both holds over the number
+pub both : (P : ℕ → Type 0) → P 2 → P 3 → (n : ℕ) → 2 ≤ n → n ≤ 3 → P n
+both P a b zero h k = absurd (omega arith)
+both P a b (suc zero) h k = absurd (omega arith)
+both P a b (suc (suc zero)) h k = a
+both P a b (suc (suc (suc zero))) h k = b
+both P a b (suc (suc (suc (suc n)))) h k = absurd (omega arith)
+
+pub bank-1 : (n : ℕ) → n ≡ 2 → (64 ≡ bankCell n) × (64 ≤ 80)
+bank-1 n e = (rw e, omega arith)
+
+pub bank-2 : (n : ℕ) → (n ≡ 2 → ⊥) → (80 ≡ bankCell n) × (80 ≤ 80)
+bank-2 n m = (simp (ne-eqb n 2 m), omega arith)
+
+pub interrupt-at : (rs : List ℕ) (n k y : ℕ) (b : Bool) → (k ≡ bankCell n) × (k ≤ 80) → y ≡ getD rs (k + 2) 0 → b ≡ isOn y 1 → b ≡ isInterrupt rs n
+unfolding isInterrupt
+interrupt-at rs n k y b e f g = g ∙ rw (f, e .0)

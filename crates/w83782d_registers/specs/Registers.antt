@@ -2,13 +2,13 @@
 -- "Register map").
 use mathlib.Core.Bool.{Bool, _&&_, _||_}
 use mathlib.Core.List.{List}
-use Prim.Native.Nat.{ℕ, _-_}
+use Prim.Native.Nat.{ℕ, _+_, _-_}
 use lib.Bits.{bitAnd, bitOr}
 use lib.Dec.{ltb, leb, eqb}
 use lib.ListN.{getD}
 use Rattle.bits.specs.Bits.{choose, isOn}
 use Rattle.bits.specs.Map.{tabulate}
-use Rattle.w83782d_map.specs.Map.{cells, at, atBank, powerOnAt, keptAt, configuration, interruptStatus2, chassisClear, vidFanDivisor, deviceId, bankSelect, vendorId, chipId, realTimeStatus2}
+use Rattle.w83782d_map.specs.Map.{cells, at, atBank, powerOnAt, keptAt, configuration, interruptStatus2, chassisClear, vidFanDivisor, deviceId, bankSelect, vendorId, chipId, realTimeStatus2, bankCell}
 
 -- ---- which register an access reaches
 
@@ -42,6 +42,10 @@ resetRegisters rs = tabulate cells 0 (λ c. choose (keptAt c) (getD rs c 0) (pow
 -- bit 7 of 40h and of 46h is a command
 abbrev pub isCommand : ℕ → ℕ → Bool
 isCommand c v = (eqb c configuration || eqb c chassisClear) && isOn v 7
+
+-- ---- the OVT mode of sensors 2 and 3, "each by its own 52h bit 1. 0, comparator", "1, interrupt"
+unfoldable pub isInterrupt : List ℕ → ℕ → Bool
+isInterrupt rs n = isOn (getD rs (bankCell n + 2) 0) 1
 
 -- ---- what a read shows
 

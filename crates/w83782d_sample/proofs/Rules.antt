@@ -3,11 +3,11 @@
 use mathlib.Core.Path.{_≡_, refl, ap₂, sym, _∙_}
 use mathlib.Core.Bool.{Bool, true, false}
 use mathlib.Core.List.{List, [], _∷_}
-use Prim.Native.Nat.{ℕ, zero, suc, _<_, max}
+use Prim.Native.Nat.{ℕ, zero, suc, _<_, _≤_, max}
 use native.Mathlib.Omega.{arith}
 use borrow.Author.Tests.{eq-eqb, ne-eqb}
 use lib.Bits.{bitOr, or-lt}
-use lib.Dec.{lit<}
+use lib.Dec.{lit<, lit≤}
 use lib.ListN.{getD, length, set}
 use Rattle.bits.specs.Bits.{flagOf, word}
 use Rattle.bits.proofs.BitLaws.{or-bit, same-byte}
@@ -19,6 +19,7 @@ use Rattle.sensor.specs.declared.Output.{Output}
 use Rattle.sensor.specs.declared.Remote.{Remote}
 use Rattle.samples.specs.declared.Sample.{Sample}
 use Rattle.w83782d_latches.specs.declared.Latches.{Latches}
+use Rattle.w83782d_latches.specs.Effects.{remoteOf}
 use Rattle.w83782d_map.specs.Map.{cells, interruptStatus1, interruptStatus2, realTimeStatus2}
 use Rattle.w83782d_bus.specs.Bus.{state, written, sized}
 use Rattle.w83782d_store.specs.Stored.{storedReadings, sampleAnswer}
@@ -30,7 +31,8 @@ use Rattle.w83782d_conditions.specs.declared.Stand.{Stand}
 use Rattle.w83782d_conditions.specs.declared.Compared.{Compared}
 use Rattle.w83782d_conditions.specs.Conditions.{isOutside, isAbove, isSlow, outputMode, standOf, comparedOf}
 use Rattle.w83782d_conditions.specs.Parts.{comparedIn}
-use Rattle.w83782d_sample.specs.Sample.{realTimeStatus1, remoteOf, statusAt, outputAt, remoteAfter, judgedRegisters, steppedLatches, sampleOf}
+use Rattle.w83782d_conditions.proofs.Rules.{not-one}
+use Rattle.w83782d_sample.specs.Sample.{realTimeStatus1, statusAt, outputAt, remoteAfter, judgedRegisters, steppedLatches, sampleOf}
 use Rattle.w83782d_sample.specs.Parts.{remoteStep, Judges}
 
 -- ---- the steps
@@ -49,20 +51,14 @@ module _ (rs : List ℕ) (l : Latches) where
   status-1 st e = e
 
   -- sensors 2 and 3, over the number
-  module _ (n : ℕ) (m : n ≡ 1 → ⊥) (x : Step) (e : x ≡ remoteStep (standOf rs n) (outputMode rs n) (remoteOf l n)) where
+  module _ (n : ℕ) (h : 2 ≤ n) (x : Step) (e : x ≡ remoteStep (standOf rs n) (outputMode rs n) (remoteOf l n)) where
     latched-n : x .latched ≡ statusAt rs l n .latched
     unfolding remoteStep statusAt standOf
-    latched-n = simp (e, ne-eqb n 1 m)
+    latched-n = simp (e, not-one n h)
 
     remote-n : x .remote ≡ remoteAfter rs l n
     unfolding remoteStep statusAt outputAt standOf
-    remote-n = simp (e, ne-eqb n 1 m)
-
-two-one : _≡_ {A = ℕ} 2 1 → ⊥
-two-one z = omega arith
-
-three-one : _≡_ {A = ℕ} 3 1 → ⊥
-three-one z = omega arith
+    remote-n = simp (e, not-one n h)
 
 -- ---- the bytes: the sensors' bits joined to those of rails and fans, bit by bit
 flag-le : (b : Bool) → flagOf b < 2
@@ -126,9 +122,9 @@ judged-of rs l one two three w1 w2 r1 r2 l1 l2 e1 e2 e3 d1 d2 f1 f2 g1 g2 =
     record {
       real1 = ap₂ bitOr d1 f1 ∙ joined _ _ _ _ _ _ _ _;
       real2 = ap₂ bitOr d2 f2 ∙ joined _ _ _ _ false _ false false ∙ short _ _ _ _ _ _;
-      latched1 = ap₂ bitOr d1 g1 ∙ joined _ _ _ _ (one .latched) (two .latched) _ _ ∙ simp (status-1 rs l one e1, latched-n rs l 2 two-one two e2);
-      latched2 = ap₂ bitOr d2 g2 ∙ joined _ _ _ _ false (three .latched) false false ∙ simp (latched-n rs l 3 three-one three e3) (short _ _ _ _ _ _);
-      latches = simp (status-1 rs l one e1, remote-n rs l 2 two-one two e2, remote-n rs l 3 three-one three e3);
+      latched1 = ap₂ bitOr d1 g1 ∙ joined _ _ _ _ (one .latched) (two .latched) _ _ ∙ simp (status-1 rs l one e1, latched-n rs l 2 (lit≤ tt) two e2);
+      latched2 = ap₂ bitOr d2 g2 ∙ joined _ _ _ _ false (three .latched) false false ∙ simp (latched-n rs l 3 (lit≤ tt) three e3) (short _ _ _ _ _ _);
+      latches = simp (status-1 rs l one e1, remote-n rs l 2 (lit≤ tt) two e2, remote-n rs l 3 (lit≤ tt) three e3);
     }
 
 pub judged : (rs : List ℕ) (l : Latches) (c : Compared) (one : Status) (two three : Step) (r1 r2 l1 l2 : ℕ) → length rs ≡ cells → c ≡ comparedIn rs

@@ -1,28 +1,25 @@
 -- What a sample does with what it stores (document 01). Rails are numbered 0 to 6, sensors and fans 1 to 3.
 use mathlib.Core.Bool.{Bool, false}
 use mathlib.Core.List.{List, [], _∷_, map}
-use Prim.Native.Nat.{ℕ, _-_}
+use Prim.Native.Nat.{ℕ}
 use lib.Bits.{bitOr}
 use lib.Dec.{eqb}
 use lib.ListN.{getD}
 use Rattle.bits.specs.Bits.{choose, word}
-use Rattle.sensor.specs.Sensor.{remote, armed, statusOf, outputOf}
+use Rattle.sensor.specs.Sensor.{remote, statusOf, outputOf}
 use Rattle.sensor.specs.declared.Mark.{Mark}
 use Rattle.sensor.specs.declared.Status.{Status}
 use Rattle.sensor.specs.declared.Output.{Output}
 use Rattle.sensor.specs.declared.Remote.{Remote}
 use Rattle.samples.specs.declared.Sample.{Sample}
 use Rattle.w83782d_latches.specs.declared.Latches.{Latches}
-use Rattle.w83782d_latches.specs.Effects.{latches}
+use Rattle.w83782d_latches.specs.Effects.{latches, remoteOf}
 use Rattle.w83782d_map.specs.Map.{atBank, interruptStatus1, interruptStatus2, realTimeStatus2}
 use Rattle.w83782d_bus.specs.Bus.{State, state, Written, written}
 use Rattle.w83782d_store.specs.Stored.{Store, _≔_, puts, storedReadings, sampleAnswer}
 use Rattle.w83782d_conditions.specs.Conditions.{isOutside, isAbove, isBelow, isSlow, statusMode, outputMode}
 
 -- ---- one step of each sensor
-abbrev pub remoteOf : Latches → ℕ → Remote
-remoteOf l n = getD (l .remote) (n - 2) armed
-
 abbrev pub markOf : Latches → ℕ → Mark
 markOf l n = choose (eqb n 1) (l .sensor1) (remoteOf l n .status)
 

@@ -2,7 +2,7 @@
 -- Assumes nothing.
 use mathlib.Core.Path.{_≡_, refl, ap, sym, _∙_}
 use mathlib.Core.Bool.{Bool, true, false, not, _&&_, _||_}
-use Prim.Native.Nat.{ℕ, _<_}
+use Prim.Native.Nat.{ℕ, _<_, _≤_}
 use native.Mathlib.Omega.{arith}
 use borrow.Author.Tests.{ltb-true, ltb-false, lt-ltb, le-ltb}
 use lib.Dec.{eqb, ltb, lit<}
@@ -11,6 +11,7 @@ use Rattle.bits.specs.Bits.{choose}
 use Rattle.analog.specs.Temperature.{half9, holds}
 use Rattle.numbers.specs.Numbers.{outside}
 use Rattle.samples.specs.declared.Sample.{Sample}
+use Rattle.w83782d_registers.proofs.Cases.{both}
 use Rattle.w83782d_bus.specs.Bus.{State}
 use Rattle.w83782d_store.specs.Stored.{halvesOf, sampleAnswer}
 use Rattle.w83782d_sample.specs.Sample.{sampleOf}
@@ -98,8 +99,5 @@ module _ (s : State) (x : Sample) (a : sampleOf s x .answer ≡ 0) where
   unfolding sampleAnswer
   near = none-far (outside (halvesOf x 2)) (outside (halvesOf x 3)) (isStandby s) (sym (sample-answer s x) ∙ a)
 
-  pub in-range-2 : holds half9 (halvesOf x 2) ≡ true
-  in-range-2 = not-far (halvesOf x 2) (near .0)
-
-  pub in-range-3 : holds half9 (halvesOf x 3) ≡ true
-  in-range-3 = not-far (halvesOf x 3) (near .1)
+  pub in-range : (n : ℕ) → 2 ≤ n → n ≤ 3 → holds half9 (halvesOf x n) ≡ true
+  in-range = both (λ n. holds half9 (halvesOf x n) ≡ true) (not-far (halvesOf x 2) (near .0)) (not-far (halvesOf x 3) (near .1))

@@ -3,13 +3,14 @@
 use mathlib.Core.Path.{_≡_, refl, ap, ap₂, _∙_}
 use mathlib.Core.Bool.{Bool, true, false}
 use mathlib.Core.List.{List, [], _∷_, map}
-use mathlib.Core.Logic.{_≢_}
 use Prim.Native.Nat.{ℕ, zero, suc, _+_, _*_, _<_, _≤_, max}
 use native.Mathlib.Omega.{arith}
-use borrow.Author.Tests.{ne-eqb}
+use borrow.Author.Tests.{lt-ltb}
+use mir.Val.{SFits}
+use mir.Syntax.{w8}
 use lib.Bits.{bitOr}
-use lib.Dec.{ltb, lit<}
-use lib.IntN.{ℤ}
+use lib.Dec.{ltb, lit<, lit≤}
+use lib.IntN.{ℤ, pos, negsuc}
 use lib.ListN.{getD, length}
 use lib.Signed.{ltZ}
 use Rattle.bits.specs.Bits.{bit, flagOf}
@@ -19,19 +20,35 @@ use Rattle.analog.specs.Temperature.{half8, half9, holds, codeOf, levelOf, sign
 use Rattle.analog.proofs.Complement.{twos-complement-holds, code-lt, half-in}
 use Rattle.sensor.specs.Sensor.{remote}
 use Rattle.sensor.specs.declared.Status.{Status}
+use Rattle.sensor.specs.declared.Output.{Output}
 use Rattle.sensor.specs.declared.Remote.{Remote}
 use Rattle.samples.specs.declared.Sample.{Sample}
 use Rattle.w83782d_latches.specs.declared.Latches.{Latches}
-use Rattle.w83782d_map.specs.Map.{cells, interruptStatus1, interruptStatus2, realTimeStatus2}
-use Rattle.w83782d_latches.specs.Effects.{latches}
+use Rattle.w83782d_map.specs.Map.{cells, interruptStatus1, interruptStatus2, realTimeStatus2, bankCell}
+use Rattle.w83782d_registers.specs.Registers.{isInterrupt}
+use Rattle.w83782d_registers.proofs.Cases.{both}
+use Rattle.w83782d_latches.specs.Effects.{latches, remoteOf}
 use Rattle.w83782d_bus.specs.Bus.{State}
-use Rattle.w83782d_store.specs.Stored.{voltage, fanCount, sensor1Value, bankCell, voltageOf, halvesOf, countOf, readings, storedReadings}
+use Rattle.w83782d_store.specs.Stored.{voltage, fanCount, sensor1Value, voltageOf, halvesOf, countOf, readings, storedReadings}
 use Rattle.w83782d_conditions.specs.Conditions.{highLimit, lowLimit, fanLimit, sensor1Over, sensor1Hysteresis, ovtProperty, isOutside, isAbove, isBelow, isSlow, statusMode, outputMode}
-use Rattle.w83782d_sample.specs.Sample.{Source, firstByte, secondByte, realTimeStatus1, remoteOf, statusAt, outputAt, condition, latchedBy, verdicts, latchedByte, steppedLatches, sampleOf}
+use Rattle.w83782d_conditions.proofs.Rules.{not-one}
+use Rattle.w83782d_sample.specs.Sample.{Source, firstByte, secondByte, realTimeStatus1, statusAt, outputAt, remoteAfter, condition, latchedBy, verdicts, latchedByte, steppedLatches, sampleOf}
 use Rattle.w83782d_sample.specs.Sample.Source.{rail, sensor, fan, chassis}
-use Rattle.w83782d_sample_laws.specs.Claims.{halvesIn, Stores, cellIn, after, isBeside, isHotter, isColder, isSlower, holdsFor, flagAt, Fits, RealTime, FanRings, statusFor, outputFor, latchesFor, StatusOr, LatchesAfter}
+use Rattle.w83782d_bus_laws.specs.Claims.{cellIn}
+use Rattle.w83782d_sample_laws.specs.Claims.{halvesIn, Stores, after, isBeside, isHotter, isColder, isSlower, holdsFor, flagAt, RealTime, FanRings, statusFor, outputFor, latchesFor, StatusOr, LatchesAfter}
 use Rattle.w83782d_sample_laws.proofs.Stores.{lastOf, cellsOf, isOf, stored-at, stored-other, accepted-state, left-at}
-use Rattle.w83782d_sample_laws.proofs.Answers.{in-range-2, in-range-3}
+use Rattle.w83782d_sample_laws.proofs.Answers.{in-range}
+
+-- ---- sensor 1 is a signed byte: -128 to 127
+abbrev pub Fits : Sample → Type 0
+Fits x = holds half8 (x .sensor1) ≡ true
+
+byte-holds : (z : ℤ) → SFits w8 z → holds half8 z ≡ true
+byte-holds (pos n) f = lt-ltb n 128 (f .sfits)
+byte-holds (negsuc n) f = lt-ltb n 128 (f .sfits)
+
+pub fits-byte : (x : Sample) → SFits w8 (x .sensor1) → Fits x
+fits-byte x f = byte-holds (x .sensor1) f
 
 -- ---- levels compare as the signed numbers, and a number's code stands for it
 module _ (h : ℕ) (z : ℤ) (c : ℕ) (e : holds h z ≡ true) (l : c < 2 * h) where
@@ -90,24 +107,30 @@ module _ (s : State) (x : Sample) (w : length (s .registers) ≡ cells) where
         ∙ level-below half8 (x .sensor1) (cellIn s sensor1Hysteresis) fits (b sensor1Hysteresis)
 
   -- ---- sensors 2 and 3, over the number
-  module _ (b : (c : ℕ) → cellIn s c < 256) (n : ℕ) (m : n ≢ 1) (e : holds half9 (halvesOf x n) ≡ true) (h : bankCell n < cells) (h′ : bankCell n + 1 < cells)
-      (g : given (bankCell n) ≡ halfHigh (halfCodeOf (halvesOf x n))) (g′ : given (bankCell n + 1) ≡ halfLow (halfCodeOf (halvesOf x n))) where
+  module _ (b : (c : ℕ) → cellIn s c < 256) (n : ℕ) (h : 2 ≤ n) (k : n ≤ 3) (e : holds half9 (halvesOf x n) ≡ true) where
     value-is : nineBits (getD t (bankCell n) 0) (getD t (bankCell n + 1) 0) ≡ codeOf half9 (halvesOf x n)
-    value-is = ap₂ nineBits (at (bankCell n) h ∙ g) (at (bankCell n + 1) h′ ∙ g′) ∙ nine-code (halvesOf x n) e
+    value-is =
+        both (λ n. nineBits (getD t (bankCell n) 0) (getD t (bankCell n + 1) 0) ≡ nineBits (halfHigh (halfCodeOf (halvesOf x n))) (halfLow (halfCodeOf (halvesOf x n))))
+        (ap₂ nineBits (at (bankCell 2) (lit< tt)) (at (bankCell 2 + 1) (lit< tt))) (ap₂ nineBits (at (bankCell 3) (lit< tt)) (at (bankCell 3 + 1) (lit< tt))) n h k
+        ∙ nine-code (halvesOf x n) e
 
-    above-n : stays (bankCell n + 5) → stays (bankCell n + 5 + 1) → isAbove t n ≡ isHotter s x n
+    -- a cell of both banks that stays
+    kept-in : (f : ℕ → ℕ) → stays (f (bankCell 2)) → stays (f (bankCell 3)) → getD t (f (bankCell n)) 0 ≡ cellIn s (f (bankCell n))
+    kept-in f p q = kept (f (bankCell n)) (both (λ n. stays (f (bankCell n))) p q n h k)
+
+    above-n : isAbove t n ≡ isHotter s x n
     unfolding isAbove isHotter
-    above-n k k′ =
-        simp (ne-eqb n 1 m)
-        (ap₂ (λ (a b : ℕ). ltb (levelOf half9 a) (levelOf half9 b)) (ap₂ nineBits (kept (bankCell n + 5) k) (kept (bankCell n + 5 + 1) k′)) value-is
+    above-n =
+        simp (not-one n h)
+        (ap₂ (λ (a b : ℕ). ltb (levelOf half9 a) (levelOf half9 b)) (ap₂ nineBits (kept-in (λ c. c + 5) refl refl) (kept-in (λ c. c + 5 + 1) refl refl)) value-is
         ∙ level-above half9 (halvesOf x n) (nineBits (cellIn s (bankCell n + 5)) (cellIn s (bankCell n + 5 + 1))) e
         (nine-lt _ _ (b (bankCell n + 5)) (b (bankCell n + 5 + 1))))
 
-    below-n : stays (bankCell n + 3) → stays (bankCell n + 3 + 1) → isBelow t n ≡ isColder s x n
+    below-n : isBelow t n ≡ isColder s x n
     unfolding isBelow isColder
-    below-n k k′ =
-        simp (ne-eqb n 1 m)
-        (ap₂ (λ (a b : ℕ). ltb (levelOf half9 a) (levelOf half9 b)) value-is (ap₂ nineBits (kept (bankCell n + 3) k) (kept (bankCell n + 3 + 1) k′))
+    below-n =
+        simp (not-one n h)
+        (ap₂ (λ (a b : ℕ). ltb (levelOf half9 a) (levelOf half9 b)) value-is (ap₂ nineBits (kept-in (λ c. c + 3) refl refl) (kept-in (λ c. c + 3 + 1) refl refl))
         ∙ level-below half9 (halvesOf x n) (nineBits (cellIn s (bankCell n + 3)) (cellIn s (bankCell n + 3 + 1))) e
         (nine-lt _ _ (b (bankCell n + 3)) (b (bankCell n + 3 + 1))))
 
@@ -116,15 +139,9 @@ module _ (s : State) (x : Sample) (w : length (s .registers) ≡ cells) where
   unfolding statusMode
   status-mode n = rw (kept sensor1Hysteresis refl, kept ovtProperty refl)
 
-  output-mode : (n : ℕ) → stays (bankCell n + 2) → outputMode t n ≡ outputMode (s .registers) n
-  unfolding outputMode
-  output-mode n k = rw (kept (bankCell n + 2) k)
-
-two-one : _≡_ {A = ℕ} 2 1 → ⊥
-two-one z = omega arith
-
-three-one : _≡_ {A = ℕ} 3 1 → ⊥
-three-one z = omega arith
+  output-mode : (n : ℕ) → 2 ≤ n → n ≤ 3 → outputMode t n ≡ outputMode (s .registers) n
+  unfolding outputMode isInterrupt
+  output-mode n h k = rw (kept (bankCell n + 2) (both (λ n. stays (bankCell n + 2)) refl refl n h k))
 
 -- ---- bits of an accepted sample
 module _ (s : State) (x : Sample) (w : length (s .registers) ≡ cells) (a : sampleOf s x .answer ≡ 0) where
@@ -170,24 +187,24 @@ module _ (s : State) (x : Sample) (w : length (s .registers) ≡ cells) (a : sam
   counts (suc (suc (suc zero))) h k = reading (fanCount 3) (lit< tt)
   counts (suc (suc (suc (suc f)))) h k = absurd (omega arith)
 
-  halves-back : (z : ℤ) (high low : ℕ) → holds half9 z ≡ true → high ≡ halfHigh (halfCodeOf z) → low ≡ halfLow (halfCodeOf z) → signedOf half9 (nineBits high low) ≡ z
-  halves-back z high low e p q =
-      ap (signedOf half9) (ap₂ nineBits p q ∙ nine-code z e) ∙ twos-complement-holds .back half9 z e
+  nine-stored : (n : ℕ) → 2 ≤ n → n ≤ 3
+      → nineBits (cellIn (after s x) (bankCell n)) (cellIn (after s x) (bankCell n + 1)) ≡ nineBits (halfHigh (halfCodeOf (halvesOf x n))) (halfLow (halfCodeOf (halvesOf x n)))
+  nine-stored =
+      both
+      (λ n. nineBits (cellIn (after s x) (bankCell n)) (cellIn (after s x) (bankCell n + 1)) ≡ nineBits (halfHigh (halfCodeOf (halvesOf x n))) (halfLow (halfCodeOf (halvesOf x n))))
+      (ap₂ nineBits (reading (bankCell 2) (lit< tt)) (reading (bankCell 2 + 1) (lit< tt)))
+      (ap₂ nineBits (reading (bankCell 3) (lit< tt)) (reading (bankCell 3 + 1) (lit< tt)))
 
   halves-are : (n : ℕ) → 2 ≤ n → n ≤ 3 → halvesIn (after s x) (bankCell n) ≡ halvesOf x n
-  halves-are zero h k = absurd (omega arith)
-  halves-are (suc zero) h k = absurd (omega arith)
-  halves-are (suc (suc zero)) h k =
-      halves-back (halvesOf x 2) _ _ (in-range-2 s x a) (reading (bankCell 2) (lit< tt)) (reading (bankCell 2 + 1) (lit< tt))
-  halves-are (suc (suc (suc zero))) h k =
-      halves-back (halvesOf x 3) _ _ (in-range-3 s x a) (reading (bankCell 3) (lit< tt)) (reading (bankCell 3 + 1) (lit< tt))
-  halves-are (suc (suc (suc (suc n)))) h k = absurd (omega arith)
+  halves-are n h k =
+      let e = in-range s x a n h k in
+      ap (signedOf half9) (nine-stored n h k ∙ nine-code (halvesOf x n) e) ∙ twos-complement-holds .back half9 (halvesOf x n) e
 
-  pub stores : Stores s x
-  stores =
+  pub stores : Fits x → Stores s x
+  stores fits =
       record {
         codes = codes;
-        sensor1 = λ fits. ap (signedOf half8) (reading sensor1Value (lit< tt)) ∙ twos-complement-holds .back half8 (x .sensor1) fits;
+        sensor1 = ap (signedOf half8) (reading sensor1Value (lit< tt)) ∙ twos-complement-holds .back half8 (x .sensor1) fits;
         remote = halves-are;
         counts = counts;
       }
@@ -203,17 +220,11 @@ module _ (s : State) (x : Sample) (w : length (s .registers) ≡ cells) (a : sam
 
 -- ---- where the cells are bytes: the sensors' conditions and steps
 module _ (s : State) (x : Sample) (w : length (s .registers) ≡ cells) (b : (c : ℕ) → cellIn s c < 256) (a : sampleOf s x .answer ≡ 0) where
-  above-2 : isAbove (t s x w) 2 ≡ isHotter s x 2
-  above-2 = above-n s x w b 2 two-one (in-range-2 s x a) (lit< tt) (lit< tt) refl refl refl refl
+  above-remote : (n : ℕ) → 2 ≤ n → n ≤ 3 → isAbove (t s x w) n ≡ isHotter s x n
+  above-remote n h k = above-n s x w b n h k (in-range s x a n h k)
 
-  below-2 : isBelow (t s x w) 2 ≡ isColder s x 2
-  below-2 = below-n s x w b 2 two-one (in-range-2 s x a) (lit< tt) (lit< tt) refl refl refl refl
-
-  above-3 : isAbove (t s x w) 3 ≡ isHotter s x 3
-  above-3 = above-n s x w b 3 three-one (in-range-3 s x a) (lit< tt) (lit< tt) refl refl refl refl
-
-  below-3 : isBelow (t s x w) 3 ≡ isColder s x 3
-  below-3 = below-n s x w b 3 three-one (in-range-3 s x a) (lit< tt) (lit< tt) refl refl refl refl
+  below-remote : (n : ℕ) → 2 ≤ n → n ≤ 3 → isBelow (t s x w) n ≡ isColder s x n
+  below-remote n h k = below-n s x w b n h k (in-range s x a n h k)
 
   -- ---- both bytes, over any flag of a source that the sources of a rail and a fan share
   module _ (f g : Source → Bool) (rails : (i : ℕ) → isOutside (t s x w) i ≡ isBeside s x i → f (rail i) ≡ g (rail i))
@@ -245,10 +256,10 @@ module _ (s : State) (x : Sample) (w : length (s .registers) ≡ cells) (b : (c 
 
   module _ (fits : Fits x) where
     real-first : map (condition (t s x w)) firstByte ≡ map (holdsFor s x) firstByte
-    real-first = first-same (condition (t s x w)) (holdsFor s x) (λ i e. e) (λ n e. e) (above-1 s x w b fits) above-2 above-3 refl
+    real-first = first-same (condition (t s x w)) (holdsFor s x) (λ i e. e) (λ n e. e) (above-1 s x w b fits) (above-remote 2 (lit≤ tt) (lit≤ tt)) (above-remote 3 (lit≤ tt) (lit≤ tt)) refl
 
     real-second : map (condition (t s x w)) secondByte ≡ map (holdsFor s x) secondByte
-    real-second = second-same (condition (t s x w)) (holdsFor s x) (λ i e. e) (λ n e. e) (above-1 s x w b fits) above-2 above-3 refl
+    real-second = second-same (condition (t s x w)) (holdsFor s x) (λ i e. e) (λ n e. e) (above-1 s x w b fits) (above-remote 2 (lit≤ tt) (lit≤ tt)) (above-remote 3 (lit≤ tt) (lit≤ tt)) refl
 
     pub real-time : RealTime s x
     real-time =
@@ -262,32 +273,30 @@ module _ (s : State) (x : Sample) (w : length (s .registers) ≡ cells) (b : (c 
     unfolding statusAt statusFor
     status-1 = rw (status-mode s x w 1, above-1 s x w b fits, below-1 s x w b fits)
 
-  status-2 : statusAt (t s x w) (s .latches) 2 ≡ statusFor s x 2
+  status-n : (n : ℕ) → 2 ≤ n → n ≤ 3 → statusAt (t s x w) (s .latches) n ≡ statusFor s x n
   unfolding statusAt statusFor
-  status-2 = rw (status-mode s x w 2, above-2, below-2)
+  status-n n h k = rw (status-mode s x w n, above-remote n h k, below-remote n h k)
 
-  status-3 : statusAt (t s x w) (s .latches) 3 ≡ statusFor s x 3
-  unfolding statusAt statusFor
-  status-3 = rw (status-mode s x w 3, above-3, below-3)
+  latched-n : (n : ℕ) → 2 ≤ n → n ≤ 3 → statusAt (t s x w) (s .latches) n .latched ≡ statusFor s x n .latched
+  latched-n n h k = ap (λ (y : Status). y .latched) (status-n n h k)
 
-  output-2 : outputAt (t s x w) (s .latches) 2 ≡ outputFor s x 2
+  output-n : (n : ℕ) → 2 ≤ n → n ≤ 3 → outputAt (t s x w) (s .latches) n ≡ outputFor s x n
   unfolding outputAt outputFor
-  output-2 = rw (output-mode s x w 2 refl, above-2, below-2)
+  output-n n h k = rw (output-mode s x w n h k, above-remote n h k, below-remote n h k)
 
-  output-3 : outputAt (t s x w) (s .latches) 3 ≡ outputFor s x 3
-  unfolding outputAt outputFor
-  output-3 = rw (output-mode s x w 3 refl, above-3, below-3)
+  remote-n : (n : ℕ) → 2 ≤ n → n ≤ 3 → remoteAfter (t s x w) (s .latches) n ≡ remote (statusFor s x n .mark) (outputFor s x n)
+  remote-n n h k = ap₂ (λ (y : Status) (o : Output). remote (y .mark) o) (status-n n h k) (output-n n h k)
 
   module _ (fits : Fits x) where
     latched-first : map (latchedBy (t s x w) (s .latches)) firstByte ≡ map (latchesFor s x) firstByte
     latched-first =
         first-same (latchedBy (t s x w) (s .latches)) (latchesFor s x) (λ i e. e) (λ n e. e) (ap (λ (y : Status). y .latched) (status-1 fits))
-        (ap (λ (y : Status). y .latched) status-2) (ap (λ (y : Status). y .latched) status-3) refl
+        (latched-n 2 (lit≤ tt) (lit≤ tt)) (latched-n 3 (lit≤ tt) (lit≤ tt)) refl
 
     latched-second : map (latchedBy (t s x w) (s .latches)) secondByte ≡ map (latchesFor s x) secondByte
     latched-second =
         second-same (latchedBy (t s x w) (s .latches)) (latchesFor s x) (λ i e. e) (λ n e. e) (ap (λ (y : Status). y .latched) (status-1 fits))
-        (ap (λ (y : Status). y .latched) status-2) (ap (λ (y : Status). y .latched) status-3) refl
+        (latched-n 2 (lit≤ tt) (lit≤ tt)) (latched-n 3 (lit≤ tt) (lit≤ tt)) refl
 
     pub status-or : StatusOr s x
     status-or =
@@ -301,14 +310,10 @@ module _ (s : State) (x : Sample) (w : length (s .registers) ≡ cells) (b : (c 
         after s x .latches
         ≡ latches (s .latches .chassis) (statusFor s x 1 .mark) (remote (statusFor s x 2 .mark) (outputFor s x 2) ∷ remote (statusFor s x 3 .mark) (outputFor s x 3) ∷ [])
     unfolding steppedLatches
-    stepped = ap (λ (y : State). y .latches) (accepted-state s x a) ∙ rw (status-1 fits, status-2, status-3, output-2, output-3)
+    stepped = ap (λ (y : State). y .latches) (accepted-state s x a) ∙ rw (status-1 fits, remote-n 2 (lit≤ tt) (lit≤ tt), remote-n 3 (lit≤ tt) (lit≤ tt))
 
     marks : (n : ℕ) → 2 ≤ n → n ≤ 3 → remoteOf (after s x .latches) n ≡ remote (statusFor s x n .mark) (outputFor s x n)
-    marks zero h k = absurd (omega arith)
-    marks (suc zero) h k = absurd (omega arith)
-    marks (suc (suc zero)) h k = ap (λ (l : Latches). remoteOf l 2) stepped
-    marks (suc (suc (suc zero))) h k = ap (λ (l : Latches). remoteOf l 3) stepped
-    marks (suc (suc (suc (suc n)))) h k = absurd (omega arith)
+    marks = both (λ n. remoteOf (after s x .latches) n ≡ remote (statusFor s x n .mark) (outputFor s x n)) (ap (λ (l : Latches). remoteOf l 2) stepped) (ap (λ (l : Latches). remoteOf l 3) stepped)
 
     pub latches-after : LatchesAfter s x
     latches-after =

@@ -3,4 +3,5 @@ pub mod Answers
 pub mod Conditions
 pub mod Smi
 pub mod Stored
+pub mod Reading
 pub mod Proved

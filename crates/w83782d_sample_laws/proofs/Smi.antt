@@ -21,7 +21,8 @@ use Rattle.w83782d_registers.specs.Registers.{cellOf, shownOf}
 use Rattle.w83782d_latches.specs.Effects.{writtenLatches}
 use Rattle.w83782d_bus.specs.Bus.{State, state, Written, written, writtenRegisters, writeOf}
 use Rattle.w83782d_outputs.specs.Outputs.{smiMask1, smiMask2, status1, status2, unmasked, smiOf}
-use Rattle.w83782d_sample_laws.specs.Claims.{Whole, cellIn, isStandby, smiIn, UnmaskedBit, SmiExactly, standbyOf, Standby}
+use Rattle.w83782d_bus_laws.specs.Claims.{Whole, cellIn}
+use Rattle.w83782d_sample_laws.specs.Claims.{isStandby, smiIn, UnmaskedBit, SmiExactly, standbyOf, Standby}
 use Rattle.w83782d_sample_laws.specs.Claims.UnmaskedBit.{in41h, in42h}
 
 -- ---- a byte that is not 0 has a bit set

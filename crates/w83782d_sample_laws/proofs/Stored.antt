@@ -3,12 +3,11 @@
 use mathlib.Core.Path.{_≡_, refl, ap, ap₂, sym, subst, _∙_}
 use mathlib.Core.Bool.{Bool, true, false, not, _&&_, true≢false, false≢true}
 use mathlib.Core.List.{List, [], _∷_}
-use mathlib.Core.Logic.{_≢_}
-use Prim.Native.Nat.{ℕ, _+_, _-_, _*_, _<_}
+use Prim.Native.Nat.{ℕ, _+_, _-_, _*_, _<_, _≤_}
 use native.Mathlib.Decide.{ℕ-discrete, decLt}
 use native.Mathlib.Omega.{arith}
-use borrow.Author.Tests.{ne-eqb, eqb-true, ltb-true, lt-ltb}
-use lib.Dec.{eqb, ltb, lit<}
+use borrow.Author.Tests.{eqb-true, ltb-true, lt-ltb}
+use lib.Dec.{eqb, ltb, lit<, lit≤}
 use lib.ListN.{getD, length, set, length-set}
 use lib.Seq.{getD-set-same, getD-set-other, set-out}
 use Rattle.bits.specs.Bits.{bit, isOn, numberOf}
@@ -24,18 +23,22 @@ use Rattle.fan.specs.declared.Divisor.{Divisor}
 use Rattle.sensor.specs.declared.Status.{Status}
 use Rattle.samples.specs.declared.Sample.{Sample}
 use Rattle.w83782d_latches.specs.declared.Latches.{Latches}
-use Rattle.w83782d_map.specs.Map.{cells, bankAt, indexAt, configuration, interruptStatus1, interruptStatus2}
+use Rattle.w83782d_map.specs.Map.{cells, bankAt, indexAt, configuration, interruptStatus1, interruptStatus2, bankCell}
+use Rattle.w83782d_registers.specs.Registers.{isInterrupt}
+use Rattle.w83782d_registers.proofs.Cases.{both}
 use Rattle.w83782d_bus.specs.Bus.{State}
-use Rattle.w83782d_store.specs.Stored.{Store, puts, none, voltage, fanCount, sensor1Value, bankCell, divisorPlaces, divisorOf, countOf, readings, storedReadings, sampleAnswer}
+use Rattle.w83782d_store.specs.Stored.{Store, puts, none, voltage, fanCount, sensor1Value, divisorPlaces, divisorOf, countOf, readings, storedReadings, sampleAnswer}
 use Rattle.w83782d_conditions.specs.Conditions.{highLimit, lowLimit, fanLimit, sensor1Over, sensor1Hysteresis, ovtProperty, isOutside, isAbove, isBelow, isSlow, statusMode, outputMode}
-use Rattle.w83782d_sample.specs.Sample.{statusAt, outputAt, latchedBy, verdicts, judgedRegisters, steppedLatches, sampleOf}
+use Rattle.w83782d_conditions.proofs.Rules.{not-one}
+use Rattle.w83782d_sample.specs.Sample.{statusAt, outputAt, remoteAfter, latchedBy, verdicts, judgedRegisters, steppedLatches, sampleOf}
 use Rattle.w83782d_sample.specs.Sample.Source.{sensor}
 use Rattle.w83782d_outputs.specs.Outputs.{smiMask1, smiMask2, smiOf}
-use Rattle.w83782d_sample_laws.specs.Claims.{Whole, cellIn, after, touched, ruleless, Alike, StoredOnly}
+use Rattle.w83782d_bus_laws.specs.Claims.{Whole, cellIn}
+use Rattle.w83782d_sample_laws.specs.Claims.{after, touched, ruleless, Alike, ReadAlike, StoredOnly}
 use Rattle.w83782d_sample_laws.proofs.Stores.{sample-answer, accepted-state, refused-state, frame}
 
 -- ---- registers alike: a cell that rules name whole, and a bit that a rule names
-abbrev plain : ℕ → Bool
+abbrev pub plain : ℕ → Bool
 plain c = ltb c cells && eqb (ruleless c) 0
 
 abbrev ruled : ℕ → ℕ → Bool
@@ -59,7 +62,7 @@ plain-off : (c j : ℕ) → ruleless c ≡ 0 → isOn (ruleless c) j ≡ false
 plain-off c j e = rw (e, bit-none j)
 
 module _ (s t : State) (ws : Whole s) (wt : Whole t) (a : Alike s t) where
-  same : Same (s .registers) (t .registers)
+  pub same : Same (s .registers) (t .registers)
   same =
       record {
         count = ws .count;
@@ -73,6 +76,9 @@ module _ (s t : State) (ws : Whole s) (wt : Whole t) (a : Alike s t) where
             (is-off (isOn (ruleless c) j) (and-right (ltb c cells) (not (isOn (ruleless c) j)) p));
       }
 
+pub alike : (s t : State) → Same (s .registers) (t .registers) → s .latches ≡ t .latches → Alike s t
+alike s t e l = record { bits = λ c j h hj n. e .bits c j hj (rw (lt-ltb c cells h, n)); latches = l }
+
 -- ---- the same stores to both, of a whole cell or of a bit
 module _ (f : ℕ → ℕ) (rs ts : List ℕ) (k v c : ℕ) (l : length rs ≡ length ts) (e : f (getD rs c 0) ≡ f (getD ts c 0)) where
   set-same : f (getD (set rs k v) c 0) ≡ f (getD (set ts k v) c 0)
@@ -83,7 +89,7 @@ module _ (f : ℕ → ℕ) (rs ts : List ℕ) (k v c : ℕ) (l : length rs ≡ l
       go (yes q) (yes h) = rw q (ap f (getD-set-same rs k v 0 h ∙ sym (getD-set-same ts k v 0 (omega arith))))
       go (yes q) (no h) = rw (set-out rs k v (omega arith), set-out ts k v (omega arith)) e
 
-puts-same : (ws : List Store) (rs ts : List ℕ) → Same rs ts → Same (puts rs ws) (puts ts ws)
+pub puts-same : (ws : List Store) (rs ts : List ℕ) → Same rs ts → Same (puts rs ws) (puts ts ws)
 puts-same [] rs ts e = e
 puts-same (w ∷ ws) rs ts e =
     let l : length rs ≡ length ts = e .count ∙ sym (e .count′) in
@@ -99,12 +105,6 @@ puts-same (w ∷ ws) rs ts e =
 abbrev allRuled : List Place → Bool
 allRuled [] = true
 allRuled (p ∷ ps) = ruled (p .cell) (numberOf (p .bit)) && allRuled ps
-
-two-one : _≡_ {A = ℕ} 2 1 → ⊥
-two-one z = omega arith
-
-three-one : _≡_ {A = ℕ} 3 1 → ⊥
-three-one z = omega arith
 
 module _ (rs ts : List ℕ) (e : Same rs ts) where
   gather-same : (ps : List Place) → allRuled ps ≡ true → gatherOf rs ps ≡ gatherOf ts ps
@@ -163,24 +163,44 @@ module _ (rs ts : List ℕ) (e : Same rs ts) where
   unfolding isBelow ruleless
   below-1 = rw (e .cell sensor1Value refl, e .cell sensor1Hysteresis refl)
 
-  module _ (n : ℕ) (m : n ≢ 1) (p : plain (bankCell n) ≡ true) (p′ : plain (bankCell n + 1) ≡ true) where
-    above-n : plain (bankCell n + 5) ≡ true → plain (bankCell n + 5 + 1) ≡ true → isAbove rs n ≡ isAbove ts n
-    unfolding isAbove
-    above-n q q′ =
-        simp (ne-eqb n 1 m, e .cell (bankCell n) p, e .cell (bankCell n + 1) p′, e .cell (bankCell n + 5) q, e .cell (bankCell n + 5 + 1) q′)
+  -- sensors 2 and 3: rules name every cell of a bank but 52h whole
+  module _ (n : ℕ) (h : 2 ≤ n) (k : n ≤ 3) where
+    in-bank : (f : ℕ → ℕ) → plain (f (bankCell 2)) ≡ true → plain (f (bankCell 3)) ≡ true → getD rs (f (bankCell n)) 0 ≡ getD ts (f (bankCell n)) 0
+    in-bank f p q = e .cell (f (bankCell n)) (both (λ n. plain (f (bankCell n)) ≡ true) p q n h k)
 
-    below-n : plain (bankCell n + 3) ≡ true → plain (bankCell n + 3 + 1) ≡ true → isBelow rs n ≡ isBelow ts n
-    unfolding isBelow
-    below-n q q′ =
-        simp (ne-eqb n 1 m, e .cell (bankCell n) p, e .cell (bankCell n + 1) p′, e .cell (bankCell n + 3) q, e .cell (bankCell n + 3 + 1) q′)
+    above-n : isAbove rs n ≡ isAbove ts n
+    unfolding isAbove ruleless
+    above-n =
+        simp (
+          not-one n h,
+          in-bank (λ c. c) refl refl,
+          in-bank (λ c. c + 1) refl refl,
+          in-bank (λ c. c + 5) refl refl,
+          in-bank (λ c. c + 5 + 1) refl refl,
+        )
+
+    below-n : isBelow rs n ≡ isBelow ts n
+    unfolding isBelow ruleless
+    below-n =
+        simp (
+          not-one n h,
+          in-bank (λ c. c) refl refl,
+          in-bank (λ c. c + 1) refl refl,
+          in-bank (λ c. c + 3) refl refl,
+          in-bank (λ c. c + 3 + 1) refl refl,
+        )
+
+    pub interrupt-same : isInterrupt rs n ≡ isInterrupt ts n
+    unfolding isInterrupt ruleless bit
+    interrupt-same = rw (e .bits (bankCell n + 2) 1 (lit< tt) (both (λ n. ruled (bankCell n + 2) 1 ≡ true) refl refl n h k))
+
+    output-mode : outputMode rs n ≡ outputMode ts n
+    unfolding outputMode
+    output-mode = rw interrupt-same
 
   status-mode : (n : ℕ) → statusMode rs n ≡ statusMode ts n
   unfolding statusMode ruleless bit
   status-mode n = rw (e .cell sensor1Hysteresis refl, e .bits ovtProperty 6 (lit< tt) refl)
-
-  output-mode : (n : ℕ) → ruled (bankCell n + 2) 1 ≡ true → outputMode rs n ≡ outputMode ts n
-  unfolding outputMode
-  output-mode n p = rw (e .bits (bankCell n + 2) 1 (lit< tt) p)
 
   status-same : (l : Latches) (n : ℕ) → isAbove rs n ≡ isAbove ts n → isBelow rs n ≡ isBelow ts n → statusAt rs l n ≡ statusAt ts l n
   unfolding statusAt
@@ -189,25 +209,9 @@ module _ (rs ts : List ℕ) (e : Same rs ts) where
   latched-same : (l : Latches) (n : ℕ) → isAbove rs n ≡ isAbove ts n → isBelow rs n ≡ isBelow ts n → latchedBy rs l (sensor n) ≡ latchedBy ts l (sensor n)
   latched-same l n p q = ap (λ (y : Status). y .latched) (status-same l n p q)
 
-  output-same : (l : Latches) (n : ℕ) → isAbove rs n ≡ isAbove ts n → isBelow rs n ≡ isBelow ts n → ruled (bankCell n + 2) 1 ≡ true → outputAt rs l n ≡ outputAt ts l n
+  remote-same : (l : Latches) (n : ℕ) → 2 ≤ n → n ≤ 3 → remoteAfter rs l n ≡ remoteAfter ts l n
   unfolding outputAt
-  output-same l n p q r = rw (output-mode n r, p, q)
-
-  above-2 : isAbove rs 2 ≡ isAbove ts 2
-  unfolding ruleless
-  above-2 = above-n 2 two-one refl refl refl refl
-
-  below-2 : isBelow rs 2 ≡ isBelow ts 2
-  unfolding ruleless
-  below-2 = below-n 2 two-one refl refl refl refl
-
-  above-3 : isAbove rs 3 ≡ isAbove ts 3
-  unfolding ruleless
-  above-3 = above-n 3 three-one refl refl refl refl
-
-  below-3 : isBelow rs 3 ≡ isBelow ts 3
-  unfolding ruleless
-  below-3 = below-n 3 three-one refl refl refl refl
+  remote-same l n h k = rw (status-same l n (above-n n h k) (below-n n h k), output-mode n h k, above-n n h k, below-n n h k)
 
   -- ---- the verdicts and the latches
   verdicts-same : (l : Latches) → verdicts rs l ≡ verdicts ts l
@@ -224,11 +228,11 @@ module _ (rs ts : List ℕ) (e : Same rs ts) where
         outside-same 5 refl refl refl,
         outside-same 6 refl refl refl,
         above-1,
-        above-2,
-        above-3,
+        above-n 2 (lit≤ tt) (lit≤ tt),
+        above-n 3 (lit≤ tt) (lit≤ tt),
         latched-same l 1 above-1 below-1,
-        latched-same l 2 above-2 below-2,
-        latched-same l 3 above-3 below-3,
+        latched-same l 2 (above-n 2 (lit≤ tt) (lit≤ tt)) (below-n 2 (lit≤ tt) (lit≤ tt)),
+        latched-same l 3 (above-n 3 (lit≤ tt) (lit≤ tt)) (below-n 3 (lit≤ tt) (lit≤ tt)),
         slow-same 1 refl refl,
         slow-same 2 refl refl,
         slow-same 3 refl refl,
@@ -239,15 +243,8 @@ module _ (rs ts : List ℕ) (e : Same rs ts) where
   judged-same l = subst (λ (ws : List Store). Same (puts rs ws) (judgedRegisters ts l)) (sym (verdicts-same l)) (puts-same (verdicts ts l) rs ts e)
 
   stepped-same : (l : Latches) → steppedLatches rs l ≡ steppedLatches ts l
-  unfolding steppedLatches ruleless bit
-  stepped-same l =
-      rw (
-        status-same l 1 above-1 below-1,
-        status-same l 2 above-2 below-2,
-        status-same l 3 above-3 below-3,
-        output-same l 2 above-2 below-2 refl,
-        output-same l 3 above-3 below-3 refl,
-      )
+  unfolding steppedLatches
+  stepped-same l = rw (status-same l 1 above-1 below-1, remote-same l 2 (lit≤ tt) (lit≤ tt), remote-same l 3 (lit≤ tt) (lit≤ tt))
 
 -- ---- the bits themselves stay: no sample touches their registers
 untouched : (c : ℕ) → c < cells → (among touched (bankAt c) (indexAt c) && not (eqb (ruleless c) 0)) ≡ false
@@ -293,18 +290,15 @@ module _ (s t : State) (x : Sample) (ws : Whole s) (wt : Whole t) (a : Alike s t
           ∙ sym (ap (λ (y : State). y .latches) (accepted-state t x (sym answers ∙ q)))
       go (no n) = rw (refused-state s x n, refused-state t x (λ z. n (answers ∙ z))) (a .latches)
 
-  pub stored-only : StoredOnly s t x
-  stored-only =
+  pub stored-only : ((i : ℕ) → ReadAlike s t i) → StoredOnly s t x
+  stored-only reads =
       record {
         answer = answers;
-        left =
-            record {
-              bits = λ c j h hj e. left-registers .bits c j hj (rw (lt-ltb c cells h, e));
-              latches = left-latches;
-            };
+        left = alike (after s x) (after t x) left-registers left-latches;
         stays = λ c j h hj e. bits-stay s x c j h e;
         smi = smi-same (s .registers) (t .registers) before (s .latches .chassis) ∙ ap (λ (l : Latches). smiOf (t .registers) (l .chassis)) (a .latches);
         smiAfter =
             smi-same (after s x .registers) (after t x .registers) left-registers (after s x .latches .chassis)
             ∙ ap (λ (l : Latches). smiOf (after t x .registers) (l .chassis)) left-latches;
+        reads = reads;
       }

@@ -19,7 +19,8 @@ use Rattle.w83782d_map.specs.Map.{cells, bankAt, indexAt}
 use Rattle.w83782d_bus.specs.Bus.{State, Written}
 use Rattle.w83782d_store.specs.Stored.{Store, puts, readings, storedReadings, sampleAnswer}
 use Rattle.w83782d_sample.specs.Sample.{verdicts, judgedRegisters, steppedLatches, sampledState, sampleOf}
-use Rattle.w83782d_sample_laws.specs.Claims.{cellIn, after, touched, Frame}
+use Rattle.w83782d_bus_laws.specs.Claims.{cellIn}
+use Rattle.w83782d_sample_laws.specs.Claims.{after, touched, Frame}
 
 -- ---- stores
 abbrev pub lastOf : List Store → ℕ → ℕ → ℕ

@@ -12,28 +12,22 @@ use lib.ListN.{length, getD}
 use lib.Signed.{ltZ}
 use Rattle.bits.specs.Bits.{bit, isOn, choose, flagOf}
 use Rattle.bits.specs.Map.{any, bank, Span, span, among}
-use Rattle.analog.specs.Temperature.{half8, half9, holds, signedOf, nineBits}
+use Rattle.analog.specs.Temperature.{half8, half9, signedOf, nineBits}
 use Rattle.sensor.specs.Sensor.{statusOf, outputOf}
 use Rattle.sensor.specs.declared.Status.{Status}
 use Rattle.sensor.specs.declared.Output.{Output}
 use Rattle.numbers.specs.Numbers.{outside}
 use Rattle.samples.specs.declared.Sample.{Sample}
-use Rattle.w83782d_map.specs.Map.{cells, at, bankAt, indexAt, configuration, interruptStatus1, interruptStatus2, realTimeStatus2}
-use Rattle.w83782d_registers.specs.Registers.{shownOf}
-use Rattle.w83782d_bus.specs.Bus.{State, Written, writeOf}
-use Rattle.w83782d_store.specs.Stored.{voltage, fanCount, sensor1Value, bankCell, voltageOf, halvesOf, countOf, isStopped}
+use Rattle.w83782d_map.specs.Map.{cells, at, bankAt, indexAt, configuration, interruptStatus1, interruptStatus2, realTimeStatus2, bankCell}
+use Rattle.w83782d_registers.specs.Registers.{reachOf}
+use Rattle.w83782d_latches.specs.Effects.{remoteOf}
+use Rattle.w83782d_bus.specs.Bus.{State, Written, writeOf, readOf}
+use Rattle.w83782d_bus_laws.specs.Claims.{Whole, cellIn, shownIn}
+use Rattle.w83782d_store.specs.Stored.{voltage, fanCount, sensor1Value, voltageOf, halvesOf, countOf, isStopped}
 use Rattle.w83782d_conditions.specs.Conditions.{highLimit, lowLimit, fanLimit, sensor1Over, sensor1Hysteresis, ovtProperty, statusMode, outputMode}
-use Rattle.w83782d_sample.specs.Sample.{Source, firstByte, secondByte, realTimeStatus1, markOf, remoteOf, sampleOf}
+use Rattle.w83782d_sample.specs.Sample.{Source, firstByte, secondByte, realTimeStatus1, markOf, sampleOf}
 use Rattle.w83782d_sample.specs.Sample.Source.{rail, sensor, fan, chassis}
 use Rattle.w83782d_outputs.specs.Outputs.{smiMask1, smiMask2, smiOf}
-
--- ---- every state of the monitor: 112 cells, each a byte, and any latches
-pub record Whole (s : State) : Type 0 where
-  pub count : length (s .registers) ≡ cells
-  pub bytes : (c : ℕ) → getD (s .registers) c 0 < 256
-
-abbrev pub cellIn : State → ℕ → ℕ
-cellIn s c = getD (s .registers) c 0
 
 abbrev pub after : State → Sample → State
 after s x = sampleOf s x .state
@@ -113,14 +107,10 @@ holdsFor s x chassis = false
 abbrev pub flagAt : (Source → Bool) → List Source → ℕ → ℕ
 flagAt f b j = flagOf (getD (map f b) j false)
 
--- sensor 1 is a signed byte: -128 to 127
-abbrev pub Fits : Sample → Type 0
-Fits x = holds half8 (x .sensor1) ≡ true
-
 -- "It stores seven codes, three temperatures and three fan counts": the sample's own, the counts divided
 pub record Stores (s : State) (x : Sample) : Type 0 where
   pub codes : (i : ℕ) → i < 7 → cellIn (after s x) (voltage i) ≡ voltageOf x i
-  pub sensor1 : Fits x → signedOf half8 (cellIn (after s x) sensor1Value) ≡ x .sensor1
+  pub sensor1 : signedOf half8 (cellIn (after s x) sensor1Value) ≡ x .sensor1
   pub remote : (n : ℕ) → 2 ≤ n → n ≤ 3 → halvesIn (after s x) (bankCell n) ≡ halvesOf x n
   pub counts : (f : ℕ) → 1 ≤ f → f ≤ 3 → cellIn (after s x) (fanCount f) ≡ countOf (s .registers) x f
 
@@ -170,9 +160,6 @@ pub record LatchesAfter (s : State) (x : Sample) : Type 0 where
   pub asserted : (n : ℕ) → 2 ≤ n → n ≤ 3 → remoteOf (after s x .latches) n .output .asserted ≡ outputFor s x n .asserted
 
 -- ---- SMI
-abbrev pub shownIn : State → ℕ → ℕ
-shownIn s c = shownOf (s .registers) (s .latches .chassis) c
-
 abbrev pub smiIn : State → Bool
 smiIn s = smiOf (s .registers) (s .latches .chassis)
 
@@ -208,6 +195,7 @@ pub record Standby (s : State) : Type 0 where
 unfoldable pub ruleless : ℕ → ℕ
 ruleless c =
     choose (eqb c configuration) 0b0100_0000  -- 40h bit 6
+    (choose (eqb c (at 0x48)) 0b1111_1111  -- the bus address: no event goes by it
     (choose (eqb c (at 0x4A)) 0b1111_1111
     (choose (eqb c (at 0x4B)) 0b0011_1100  -- bits 5-2: 7-6 are fan 3's divisor
     (choose (eqb c ovtProperty) 0b0001_1100  -- 4Ch bits 4-2: bit 6 is a mode
@@ -219,30 +207,37 @@ ruleless c =
     (choose (eqb c (at 0x5D)) 0b0000_1111  -- bits 3-0: 7-5 are divisor bits
     (choose (eqb c (bankCell 2 + 2)) 0b0001_1001  -- 52h of bank 1 bits 4, 3, 0: bit 1 is a mode
     (choose (eqb c (bankCell 3 + 2)) 0b0001_1001  -- and of bank 2
-    0)))))))))))
+    0))))))))))))
 
 -- two states that differ in those bits alone
 pub record Alike (s t : State) : Type 0 where
   pub bits : (c j : ℕ) → c < cells → j < 8 → isOn (ruleless c) j ≡ false → bit (cellIn s c) j ≡ bit (cellIn t c) j
   pub latches : s .latches ≡ t .latches
 
--- a sample is answered alike, leaves them alike, and leaves those bits; and SMI is the same before and after
+-- a read is answered alike, leaves them alike, releases OVT in both or in neither, and shows the same in every other bit
+pub record ReadAlike (s t : State) (i : ℕ) : Type 0 where
+  pub answer : readOf s i .answer ≡ readOf t i .answer
+  pub left : Alike (readOf s i .state) (readOf t i .state)
+  pub shown : (j : ℕ) → j < 8 → isOn (ruleless (reachOf (s .registers) i)) j ≡ false → bit (readOf s i .byte) j ≡ bit (readOf t i .byte) j
+
+-- a sample is answered alike, leaves them alike, and leaves those bits; SMI is the same before and after, and so are reads
 pub record StoredOnly (s t : State) (x : Sample) : Type 0 where
   pub answer : sampleOf s x .answer ≡ sampleOf t x .answer
   pub left : Alike (after s x) (after t x)
   pub stays : (c j : ℕ) → c < cells → j < 8 → isOn (ruleless c) j ≡ true → bit (cellIn (after s x) c) j ≡ bit (cellIn s c) j
   pub smi : smiIn s ≡ smiIn t
   pub smiAfter : smiIn (after s x) ≡ smiIn (after t x)
+  pub reads : (i : ℕ) → ReadAlike s t i
 
--- ---- all of it, of one sample
+-- ---- all of it, of one sample as its type holds it: sensor 1 is a signed byte, so nothing is asked of it
 pub record SampleClaims (s : State) (x : Sample) : Type 0 where
   pub refused : Refused s x
   pub frame : Frame s (after s x)
   pub stores : sampleOf s x .answer ≡ 0 → Stores s x
   pub fanRings : sampleOf s x .answer ≡ 0 → FanRings s x
-  pub realTime : sampleOf s x .answer ≡ 0 → Fits x → RealTime s x
-  pub statusOr : sampleOf s x .answer ≡ 0 → Fits x → StatusOr s x
-  pub latchesAfter : sampleOf s x .answer ≡ 0 → Fits x → LatchesAfter s x
+  pub realTime : sampleOf s x .answer ≡ 0 → RealTime s x
+  pub statusOr : sampleOf s x .answer ≡ 0 → StatusOr s x
+  pub latchesAfter : sampleOf s x .answer ≡ 0 → LatchesAfter s x
   -- of the state that it finds
   pub smiExactly : SmiExactly s
   pub standby : Standby s

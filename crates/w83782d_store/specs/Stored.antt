@@ -16,7 +16,7 @@ use Rattle.fan.specs.declared.Undivided.{Undivided}
 use Rattle.analog.specs.Temperature.{half8, codeOf, halfCodeOf, halfHigh, halfLow}
 use Rattle.numbers.specs.Numbers.{outside}
 use Rattle.samples.specs.declared.Sample.{Sample}
-use Rattle.w83782d_map.specs.Map.{at, atBank, configuration}
+use Rattle.w83782d_map.specs.Map.{at, configuration, bankCell}
 
 -- ---- the cells of a rail, a sensor and a fan
 abbrev pub voltage : ℕ → ℕ
@@ -27,10 +27,6 @@ fanCount f = at 0x27 + f
 
 abbrev pub sensor1Value : ℕ
 sensor1Value = at 0x27
-
--- 50h of the bank of sensor 2 or 3; on from there: 52h its configuration, 53h its hysteresis, 55h its over limit
-abbrev pub bankCell : ℕ → ℕ
-bankCell n = atBank (n - 1) 0x50
 
 -- ---- a fan's divisor: "fan 2 divisor 7-6, fan 1 divisor 5-4" of 47h, "fan 3 divisor 7-6" of 4Bh, "divisor top bits: fan 3, 2, 1 in 7, 6, 5" of 5Dh
 abbrev pub place : ℕ → Bit → Place

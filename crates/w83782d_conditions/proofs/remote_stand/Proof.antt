@@ -3,6 +3,9 @@ use Rattle.w83782d_conditions.proofs.Rules.{stand-remote}
 use Rattle.w83782d_conditions.proofs.remote_stand.Statement.{statement}
 use Rattle.w83782d_conditions.proofs.remote_stand.Tie as tie
 
+bank-cell-requires : tie.Need-bank-cell-requires
+bank-cell-requires c κs = search needs
+
 half-level-at-requires : tie.Need-half-level-at-requires
 half-level-at-requires c κs = search needs
 
@@ -34,6 +37,7 @@ pub remote-stand-spec : {M : Type 1} → statement M
 remote-stand-spec =
     tie.close
     (tie.spec
+    bank-cell-requires
     half-level-at-requires
     add-half-level-at
     half-level-at-requires-2

@@ -1,5 +1,6 @@
 use borrow.Author.Needs.{needs}
-use Rattle.w83782d.proofs.Faces.{ovt-2, ovt-3, ovt-none}
+use lib.Dec.{lit≤}
+use Rattle.w83782d.proofs.Faces.{ovt-of, ovt-none}
 use Rattle.w83782d.proofs.Monitor.ovt.Statement.{statement}
 use Rattle.w83782d.proofs.Monitor.ovt.Tie as tie
 
@@ -10,10 +11,10 @@ element-copy-out-three : tie.Need-element-copy-out-three
 element-copy-out-three c = search needs
 
 returns : tie.Need-returns
-returns c = search (needs, ovt-2)
+returns c = search (needs, ovt-of 2 (lit≤ tt) (lit≤ tt))
 
 returns-2 : tie.Need-returns-2
-returns-2 c = search (needs, ovt-3)
+returns-2 c = search (needs, ovt-of 3 (lit≤ tt) (lit≤ tt))
 
 returns-3 : tie.Need-returns-3
 returns-3 c = search (needs, ovt-none)

@@ -1,6 +1,6 @@
 use borrow.Author.Needs.{needs}
 use Prim.Native.Nat.{ℕ}
-use mir.Val.{Fits}
+use mir.Val.{Fits, SFits}
 use mir.Syntax.{w8}
 use lib.ListN.{getD}
 use Rattle.w83782d.specs.Monitor.{stateOf}
@@ -19,8 +19,10 @@ sample-in-requires c κs = search needs
 returns : tie.Need-returns
 returns c =
     let m = c .before .before .before .before .before .before .args .self in
+    let x = c .before .before .before .before .before .before .args .x in
     let fits : (k : ℕ) → Fits w8 (getD (m .registers) k 0) = λ k. search needs in
-    (search (needs, sample-face), (sample-claims (stateOf m) _ (record { count = search needs; bytes = λ k. fits k .fits }), sample-rings (stateOf m) _))
+    let byte : SFits w8 (x .sensor1) = search needs in
+    (search (needs, sample-face), (sample-claims (stateOf m) x (record { count = search needs; bytes = λ k. fits k .fits }) byte, sample-rings (stateOf m) x))
 
 pub sample-spec : {M : Type 1} → statement M
 sample-spec = tie.close (tie.spec slice-aggregate-sample-in sample-in-requires returns)

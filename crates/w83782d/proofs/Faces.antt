@@ -1,11 +1,12 @@
 -- The methods by value from what the functions in place ensure.
 -- Assumes nothing.
-use mathlib.Core.Path.{_≡_, ap}
+use mathlib.Core.Path.{_≡_, ap, _∙_}
 use mathlib.Core.List.{List}
 use Prim.Native.Nat.{ℕ}
-use mathlib.Core.Bool.{false}
-use borrow.Author.Tests.{eq-eqb, ne-eqb}
-use lib.ListN.{length, getD}
+use mathlib.Core.Bool.{Bool}
+use native.Mathlib.Omega.{arith}
+use borrow.Author.Tests.{eq-eqb}
+use lib.ListN.{length}
 use Rattle.w83782d_map.specs.Map.{cells}
 use Rattle.w83782d_bus.specs.Bus as Bus
 use Rattle.w83782d_latches.specs.Effects.{powerOnLatches}
@@ -13,14 +14,16 @@ use Rattle.w83782d_bus.specs.Bus.{state, powerOn, written, Written, sized, size
 use Rattle.w83782d_latches.specs.declared.Latches.{Latches}
 use Rattle.w83782d_bus.specs.declared.Wrote.{Wrote}
 use Rattle.w83782d_bus.specs.declared.Seen.{Seen}
-use Rattle.sensor.specs.Sensor.{armed}
+use Rattle.w83782d_outputs.specs.Outputs.{smiOf, standingAlarms, outputsOf}
+use Rattle.w83782d_outputs.specs.declared.Outputs.{Outputs}
+use Rattle.w83782d_outputs.specs.declared.Outputs.the-variants as outputs
 use Rattle.event.specs.declared.Event.{Event}
 use Rattle.samples.specs.declared.Sample.{Sample}
 use Rattle.w83782d_replay.specs.Replay as Replay
 use Rattle.w83782d_sample.specs.Sample as Rule
 use Rattle.w83782d_settings.specs.Plan as Plan
 use Rattle.w83782d.specs.declared.Monitor.{Monitor}
-use Rattle.w83782d.specs.Monitor.{stateOf, monitorOf, answered, shown, powerOnOf, writeOf, readOf, sampleOf, setPlanOf, applyOf, ovtOf}
+use Rattle.w83782d.specs.Monitor.{stateOf, monitorOf, answered, shown, powerOnOf, writeOf, readOf, sampleOf, setPlanOf, applyOf}
 
 abbrev pub monitor : List ℕ → Latches → Monitor
 monitor rs l = record { registers = rs; latches = l }
@@ -65,16 +68,17 @@ apply-face m ts r e h g =
     let f : seenIn ts r ≡ Replay.applyOf (stateOf m) (e .kind) (e .sample) = rw (eq-eqb (length (m .registers)) cells h) at g in
     ap shown f
 
--- ---- OVT
-module _ (m : Monitor) (n : ℕ) where
-  pub ovt-2 : n ≡ 2 → getD (m .latches .remote) 0 armed .output .asserted ≡ ovtOf m n
-  unfolding ovtOf
-  ovt-2 e = rw e
+-- ---- SMI and standing alarms: a monitor's registers are 112 cells
+module _ (m : Monitor) (o : Outputs) (h : length (m .registers) ≡ cells) (e : o ≡ outputsOf (m .registers) (m .latches .chassis)) where
+  shown-both : o ≡ outputs.Shown (smiOf (m .registers) (m .latches .chassis)) (standingAlarms (m .registers) (m .latches .chassis))
+  unfolding outputsOf
+  shown-both = e ∙ simp (eq-eqb (length (m .registers)) cells h)
 
-  pub ovt-3 : n ≡ 3 → getD (m .latches .remote) 1 armed .output .asserted ≡ ovtOf m n
-  unfolding ovtOf
-  ovt-3 e = rw e
+  pub smi-face : (b : Bool) (n : ℕ) → o ≡ outputs.Shown b n → b ≡ smiOf (m .registers) (m .latches .chassis)
+  smi-face b n f = cc shown-both
 
-  pub ovt-none : (n ≡ 2 → ⊥) → (n ≡ 3 → ⊥) → false ≡ ovtOf m n
-  unfolding ovtOf
-  ovt-none p q = simp (ne-eqb n 2 p, ne-eqb n 3 q)
+  pub alarms-face : (b : Bool) (n : ℕ) → o ≡ outputs.Shown b n → n ≡ standingAlarms (m .registers) (m .latches .chassis)
+  alarms-face b n f = cc shown-both
+
+  pub never-short : o ≡ outputs.WrongLength → ⊥
+  never-short f = let g = shown-both in let z : _≡_ {A = ℕ} 0 1 = cc in omega arith

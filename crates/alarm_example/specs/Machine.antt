@@ -6,7 +6,7 @@ use mathlib.Core.List.{List, [], _∷_, _++_}
 use Prim.Native.Nat.{ℕ, suc, _-_}
 use lib.Dec.{eqb, ltb}
 use lib.ListN.{getD, set}
-use Rattle.bits.specs.Bits.{choose, bit, isOn, word, Change, change, changes}
+use Rattle.bits.specs.Bits.{choose, bit, isOn, word, Change, change, changes, isBeyond}
 use Rattle.bits.specs.declared.Bit.{Bit}
 use Rattle.bits.specs.declared.Bit.the-variants.{B0, B1, B2, B4, B5, B6}
 use Rattle.fields.specs.Fields.{digitsOf}
@@ -14,7 +14,7 @@ use Rattle.fields.specs.declared.Place.{Place}
 use Rattle.fan.specs.Count.{valueOf}
 use Rattle.planner.specs.Plan.{ringsAt, planAnswer}
 use Rattle.planner.specs.Search.{planOf}
-use Rattle.fan_settings.specs.Settings.{Fan, fanAt, limitIn, divisorIn, plannedRegisters, isNoFan}
+use Rattle.fan_settings.specs.Settings.{Fan, fanAt, limitIn, divisorIn, plannedRegisters}
 use Rattle.alarm.specs.Chip as chip
 use Rattle.alarm.specs.Chip.{Kind, reset, writing, planning, sampling, other, Chip}
 
@@ -72,7 +72,7 @@ abbrev pub answerTo : State → Call → ℕ
 answerTo s (write k v) = choose (ltb k 4) 0 2
 answerTo s look = 0
 answerTo s (sample a b) = choose (isOn (getD (s .registers) 0 0) 0) 0 4
-answerTo s (setPlan f w) = choose (isNoFan 2 f) 7 (planAnswer (planOf w))
+answerTo s (setPlan f w) = choose (isBeyond 2 f) 7 (planAnswer (planOf w))
 answerTo s (putBack a b k₁ k₂) = 0
 
 abbrev pub looksAfter : ℕ → Call → ℕ

@@ -4,7 +4,7 @@ use Prim.Native.Nat.{ℕ, suc, _+_, _-_, _*_, _/_, _%_, _^_, _≤_, _<_}
 use native.Mathlib.Nat.{mod-eq-of-lt, mod-lt, add-mod-right, mul-div-cancel}
 use native.Mathlib.Omega.{arith}
 use mathlib.Core.Path.{_≡_, refl, sym, ap, ap₂, subst, _∙_}
-use mathlib.Core.Bool.{Bool, true, false}
+use mathlib.Core.Bool.{Bool, true, false, not, _||_}
 use lib.Dec.{T, ltb, lit<}
 use lib.IntN.{ℤ, pos, negsuc, negℤ, natAbs, _+ℤ_}
 use lib.Signed.{ltZ, nonNeg}
@@ -13,7 +13,8 @@ use mir.Val.{SFits, toZ, ofZ}
 use mir.ValLaws.{toZ-ofZ, toZ-pos}
 use borrow.Author.Tests.{ltb-true, ltb-false, lt-ltb, le-ltb}
 use Rattle.bits.specs.Bits.{choose}
-use Rattle.analog.specs.Temperature.{half8, half9, signedOf, codeOf, holds, levelOf, nineBits, halfCodeOf, TwosComplement}
+use Rattle.analog.specs.Temperature.{half8, half9, signedOf, codeOf, holds, levelOf, nineBits, outside, halfCodeOf, halfAnswer, TwosComplement}
+use Rattle.analog.specs.declared.HalfCode.{HalfCode}
 use Rattle.analog.specs.declared.HalfCode.the-variants.{Code, OutOfRange}
 
 pub low-half : (h code : ℕ) → code < h → pos code ≡ signedOf h code
@@ -107,21 +108,25 @@ bytes code =
 pub level-lt : (h code : ℕ) → 0 < h → levelOf h code < 2 * h
 level-lt h code p = mod-lt (code + h) (omega arith)
 
+-- -256 to 255 is what nine bits hold
+not-below : (n : ℕ) → ltb 255 n ≡ not (ltb n 256)
+not-below n = go (ltb n 256) refl
+  where
+    go : (b : Bool) → ltb n 256 ≡ b → ltb 255 n ≡ not (ltb n 256)
+    go true e = rw (e, le-ltb 255 n (omega (arith, ltb-true n 256 e)))
+    go false e = rw (e, lt-ltb 255 n (omega (arith, ltb-false n 256 e)))
+
+or-none : (b : Bool) → (b || false) ≡ b
+or-none true = refl
+or-none false = refl
+
+beyond : (z : ℤ) → outside z ≡ not (holds half9 z)
+unfolding outside
+beyond (pos n) = not-below n
+beyond (negsuc n) = or-none (ltb 255 n) ∙ not-below n
+
 pub twos-complement-holds : TwosComplement
-twos-complement-holds = record { there = there; back = back; in-range = in-range; bytes = bytes; levels = levels }
-
--- what the code's tests say of a number
-pub held : (h : ℕ) (z : ℤ) → ltZ z (negsuc h) ≡ false → ltZ (pos h) z ≡ false → holds (suc h) z ≡ true
-held h (pos n) p q = lt-ltb n (suc h) (omega (arith, ltb-false h n q))
-held h (negsuc n) p q = lt-ltb n (suc h) (omega (arith, ltb-false h n p))
-
-pub too-low : (h : ℕ) (z : ℤ) → ltZ z (negsuc h) ≡ true → holds (suc h) z ≡ false
-too-low h (pos n) p = let z : _≡_ {A = ℕ} 0 1 = cc in absurd (omega arith)
-too-low h (negsuc n) p = le-ltb n (suc h) (ltb-true h n p)
-
-pub too-high : (h : ℕ) (z : ℤ) → ltZ (pos h) z ≡ true → holds (suc h) z ≡ false
-too-high h (pos n) p = le-ltb n (suc h) (ltb-true h n p)
-too-high h (negsuc n) p = let z : _≡_ {A = ℕ} 0 1 = cc in absurd (omega arith)
+twos-complement-holds = record { there = there; back = back; in-range = in-range; beyond = beyond; bytes = bytes; levels = levels }
 
 pub code-lt : (h : ℕ) (z : ℤ) → holds h z ≡ true → codeOf h z < 2 * h
 code-lt h (pos n) e = omega (arith, ltb-true n h e)
@@ -195,13 +200,33 @@ kept-byte z f = ap (λ (x : ℤ). toZ w8 (ofZ w8 x)) (toZ-ofZ w16 z (widens z f)
 pub degrees-fit : (code : ℕ) (z : ℤ) → code < 256 → z ≡ signedOf half8 code → SFits w8 z
 degrees-fit code z h e = subst (SFits w8) (sym e) (holds-byte (signedOf half8 code) (in-range half8 code h))
 
--- the cases of the bytes of half degrees
-pub half-out : (z : ℤ) → holds half9 z ≡ false → OutOfRange ≡ halfCodeOf z
-unfolding halfCodeOf
-half-out z e = sym (ap (λ (t : Bool). choose t (Code (codeOf half9 z / 2) (codeOf half9 z % 2 * 128)) OutOfRange) e)
+-- ---- the bytes of half degrees, by their cases
+module _ (z : ℤ) where
+  pub half-out : outside z ≡ true → OutOfRange ≡ halfCodeOf z
+  unfolding halfCodeOf
+  half-out e = simp e
 
-pub half-in : (z : ℤ) (r : ℕ) → holds half9 z ≡ true → r ≡ codeOf half9 z → Code (r / 2) (r % 2 * 128) ≡ halfCodeOf z
-unfolding halfCodeOf
-half-in z r e q =
-    ap (λ (n : ℕ). Code (n / 2) (n % 2 * 128)) q
-    ∙ sym (ap (λ (t : Bool). choose t (Code (codeOf half9 z / 2) (codeOf half9 z % 2 * 128)) OutOfRange) e)
+  pub half-in : (r : ℕ) → outside z ≡ false → r ≡ codeOf half9 z → Code (r / 2) (r % 2 * 128) ≡ halfCodeOf z
+  unfolding halfCodeOf
+  half-in r e q = simp e (ap (λ (n : ℕ). Code (n / 2) (n % 2 * 128)) q)
+
+  half-answer : halfAnswer (halfCodeOf z) ≡ choose (outside z) 3 0
+  unfolding halfCodeOf
+  half-answer = go (outside z)
+    where
+      go : (t : Bool) → halfAnswer (choose t OutOfRange (Code (codeOf half9 z / 2) (codeOf half9 z % 2 * 128))) ≡ choose t 3 0
+      go true = refl
+      go false = refl
+
+  pub half-answered : (r : HalfCode) → r ≡ halfCodeOf z → (r ≡ halfCodeOf z) × (halfAnswer r ≡ choose (outside z) 3 0)
+  half-answered r e = (e, ap halfAnswer e ∙ half-answer)
+
+  pub inside : holds half9 z ≡ true → outside z ≡ false
+  inside e = beyond z ∙ ap not e
+
+  pub held : outside z ≡ false → holds half9 z ≡ true
+  held e = go (holds half9 z) (sym (beyond z) ∙ e)
+    where
+      go : (b : Bool) → not b ≡ false → b ≡ true
+      go true n = refl
+      go false n = sym n

@@ -2,7 +2,7 @@
 -- Each rule is over half the range of the codes, h.
 use Prim.Native.Nat.{ℕ, suc, _+_, _-_, _*_, _/_, _%_, _<_}
 use mathlib.Core.Path.{_≡_}
-use mathlib.Core.Bool.{Bool, true}
+use mathlib.Core.Bool.{Bool, true, not, _||_}
 use lib.Dec.{ltb}
 use lib.IntN.{ℤ, pos, negsuc, negℤ}
 use lib.Signed.{ltZ}
@@ -40,9 +40,13 @@ levelOf h code = (code + h) % (2 * h)
 abbrev pub nineBits : ℕ → ℕ → ℕ
 nineBits high low = 2 * high + low / 128
 
--- the two bytes of half degrees, the other bits of the low byte 0; answer 3 outside -256 to 255 half degrees
+-- "outside -256 to 255 half degrees": what nine bits don't hold
+unfoldable pub outside : ℤ → Bool
+outside z = ltZ z (negsuc 255) || ltZ (pos 255) z
+
+-- the two bytes of half degrees, the other bits of the low byte 0
 unfoldable pub halfCodeOf : ℤ → HalfCode
-halfCodeOf z = choose (holds half9 z) (Code (codeOf half9 z / 2) (codeOf half9 z % 2 * 128)) OutOfRange
+halfCodeOf z = choose (outside z) OutOfRange (Code (codeOf half9 z / 2) (codeOf half9 z % 2 * 128))
 
 -- the number of the answer table: "3: sensor 2 or 3 outside -256 to 255 half degrees"
 abbrev pub halfAnswer : HalfCode → ℕ
@@ -64,6 +68,8 @@ pub record TwosComplement : Type 0 where
   pub there : (h code : ℕ) → code < 2 * h → codeOf h (signedOf h code) ≡ code
   pub back : (h : ℕ) (z : ℤ) → holds h z ≡ true → signedOf h (codeOf h z) ≡ z
   pub in-range : (h code : ℕ) → code < 2 * h → holds h (signedOf h code) ≡ true
+  -- the half degrees that are refused are those that nine bits don't hold
+  pub beyond : (z : ℤ) → outside z ≡ not (holds half9 z)
   -- nine bits and their two bytes
   pub bytes : (code : ℕ) → nineBits (code / 2) (code % 2 * 128) ≡ code
   -- comparing levels is comparing the signed numbers

@@ -1,14 +1,20 @@
-// Readings of the analog side but voltages: temperatures, PWM duty.
+// Readings of the analog side but voltages: temperatures and which half degrees are out of range, PWM duty.
 ghost use mathlib.Core.Path.{_≡_};
 ghost use mathlib.Core.Bool.{true};
 ghost use Prim.Native.Nat.{_*_, _≤_, _<_};
-ghost use Rattle.analog.specs.Temperature.{half8, half9, signedOf, codeOf, holds, levelOf, nineBits, halfCodeOf, TwosComplement};
+ghost use Rattle.bits.specs.Bits.{choose};
+ghost use Rattle.analog.specs.Temperature.{half8, half9, signedOf, codeOf, holds, levelOf, nineBits, outside, halfCodeOf, halfAnswer, TwosComplement};
 ghost use Rattle.analog.specs.Pwm.{pwmParts};
 
 // Half the range of a byte, and of nine bits.
 const HALF_8: u16 = 128;
 
 const HALF_9: u16 = 256;
+
+// The half degrees that sensors 2 and 3 have.
+const LOWEST: i16 = -256;
+
+const HIGHEST: i16 = 255;
 
 // Bit 7 of a byte.
 const BIT_7: u8 = 128;
@@ -83,14 +89,22 @@ pub fn half_degrees(high: u8, low: u8) -> i16
     signed(HALF_9, nine_bits(high, low))
 }
 
-// The two bytes of half degrees; refused outside -256 to 255.
-pub fn half_code(halves: i16) -> HalfCode
-    ensures { λ r. ⌜ r ≡ halfCodeOf halves ⌝ }
+// Whether half degrees are outside -256 to 255.
+pub fn is_outside(halves: i16) -> bool
+    ensures { λ r. ⌜ r ≡ outside halves ⌝ }
 {
-    if halves < -256 {
-        return HalfCode::OutOfRange;
+    if halves < LOWEST {
+        return true;
     }
-    if 255 < halves {
+    HIGHEST < halves
+}
+
+// The two bytes of half degrees; refused as 3 exactly outside -256 to 255.
+pub fn half_code(halves: i16) -> HalfCode
+    ensures equation { λ r. ⌜ r ≡ halfCodeOf halves ⌝ }
+    ensures answer { λ r. ⌜ halfAnswer r ≡ choose (outside halves) 3 0 ⌝ }
+{
+    if is_outside(halves) {
         return HalfCode::OutOfRange;
     }
     let code = code_of(HALF_9, halves);

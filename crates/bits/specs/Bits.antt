@@ -3,7 +3,7 @@ use mathlib.Core.Bool.{Bool, true, false, _&&_, _||_}
 use mathlib.Core.List.{List, [], _∷_}
 use Prim.Native.Nat.{ℕ, _+_, _-_, _*_, _/_, _%_, _^_}
 use lib.Bits.{bitAnd, bitOr}
-use lib.Dec.{eqb}
+use lib.Dec.{eqb, ltb}
 use lib.ListN.{getD, set}
 use Rattle.bits.specs.declared.Bit.{Bit}
 use Rattle.bits.specs.declared.Bit.the-variants.{B0, B1, B2, B3, B4, B5, B6, B7}
@@ -11,6 +11,10 @@ use Rattle.bits.specs.declared.Bit.the-variants.{B0, B1, B2, B3, B4, B5,
 abbrev pub choose : {A : Type 0} → Bool → A → A → A
 choose true a b = a
 choose false a b = b
+
+-- "not 1 to 3", or to another last one: what fans, sensors and outputs are numbered by
+abbrev pub isBeyond : ℕ → ℕ → Bool
+isBeyond last n = ltb n 1 || ltb last n
 
 -- ---- one bit
 

@@ -44,6 +44,8 @@ pub enum Speed {
     TooSlow,
     // Answer 7: there is no such fan.
     Refused,
+    // Answer 8: a slice that is not the registers'.
+    WrongLength,
 }
 
 impl Divisor {

@@ -12,7 +12,7 @@ use lib.Bits.{bitAnd, and-mask, and-zero-r, or-zero-l}
 use lib.Dec.{T, eqb, ltb, lit<}
 use lib.ListN.{length, getD, set, length-set}
 use lib.Seq.{getD-set-same, getD-set-other}
-use Rattle.bits.specs.Bits.{bit, numberOf, mergeOf, changes}
+use Rattle.bits.specs.Bits.{bit, numberOf, mergeOf, changes, isBeyond}
 use Rattle.fields.specs.Fields.{digitsOf, gatherOf, replaceOf, isIn, distinct, inside, apart}
 use Rattle.fields.specs.declared.Place.{Place}
 use Rattle.bits.specs.declared.Bit.{Bit}
@@ -31,7 +31,7 @@ use Rattle.planner.specs.Search.{planOf}
 use Rattle.planner.specs.declared.Planned.{Planned}
 use Rattle.planner.specs.declared.Planned.the-variants.{Plan, Refused}
 use Rattle.planner.proofs.Planning.{plan-of-is}
-use Rattle.fan_settings.specs.Settings.{Fan, fanAt, limitIn, divisorIn, settings, isNoFan, setAnswer, hasCell, isSound, isApart}
+use Rattle.fan_settings.specs.Settings.{Fan, fanAt, limitIn, divisorIn, settings, setAnswer, hasCell, isSound, isApart}
 use Rattle.fan_settings.specs.Claims.{PlanSet}
 
 -- ---- computed: a fan whose divisor bits share their cells with others', as fan 1 of the W83782D has them, is given a plan where
@@ -235,7 +235,7 @@ pub record Accepted (n f w : ℕ) : Type 0 where
 
 pub accepted : (n f w : ℕ) → setAnswer n f w ≡ 0 → Accepted n f w
 accepted n f w =
-    choose-ind (λ (a : ℕ). a ≡ 0 → Accepted n f w) (isNoFan n f) 7 (answerFor w) (λ _ z. absurd (omega arith))
+    choose-ind (λ (a : ℕ). a ≡ 0 → Accepted n f w) (isBeyond n f) 7 (answerFor w) (λ _ z. absurd (omega arith))
     (λ e z. by (planOf w) refl (plan-of-is w .answer ∙ z) (ltb-false f 1 (or-left (ltb f 1) (ltb n f) e)) (ltb-false n f (or-right (ltb f 1) (ltb n f) e)))
   where
     by : (p : Planned) → planOf w ≡ p → planAnswer (planOf w) ≡ 0 → 1 ≤ f → f ≤ n → Accepted n f w

@@ -4,7 +4,7 @@ use mathlib.Core.List.{List, [], _∷_}
 use Prim.Native.Nat.{ℕ}
 use lib.Dec.{eqb, ltb}
 use lib.ListN.{length, getD}
-use Rattle.bits.specs.Bits.{choose, Change, change, changes}
+use Rattle.bits.specs.Bits.{choose, isBeyond, Change, change, changes}
 use Rattle.fields.specs.Fields.{digitsOf, distinct, apart, inside}
 use Rattle.fields.specs.declared.Place.{Place}
 use Rattle.fan.specs.Count.{exponentOf}
@@ -37,13 +37,9 @@ abbrev pub plannedRegisters : List ℕ → Fan → Planned → List ℕ
 plannedRegisters rs f (Plan d l) = changes rs (settings f d l)
 plannedRegisters rs f Refused = rs
 
--- "fan not 1 to n"
-abbrev pub isNoFan : ℕ → ℕ → Bool
-isNoFan n f = ltb f 1 || ltb n f
-
--- 7 before 6
+-- of n fans: 7 for a "fan not 1 to" n, before 6
 abbrev pub setAnswer : ℕ → ℕ → ℕ → ℕ
-setAnswer n f w = choose (isNoFan n f) 7 (answerFor w)
+setAnswer n f w = choose (isBeyond n f) 7 (answerFor w)
 
 -- ---- which settings those may be
 

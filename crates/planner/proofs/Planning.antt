@@ -13,7 +13,7 @@ use Rattle.fan.specs.declared.Divisor.{Divisor}
 use Rattle.planner.specs.declared.Planned.{Planned}
 use Rattle.planner.specs.declared.Planned.the-variants.{Plan, Refused}
 use Rattle.fan.specs.Count.{perMinute, valueOf, storedOf, countOf}
-use Rattle.planner.specs.Plan.{IsPlan, IsPlanned, Plans, ringsFrom, asked, ringsAt}
+use Rattle.planner.specs.Plan.{IsPlan, IsPlanned, Plans, ringsFrom, asked, isNoSpeed, ringsAt}
 use Rattle.planner.specs.Search.{productOf, bestTo, plannedBy, planOf}
 use Rattle.fan.proofs.Divisors.{value-pos, value-is, value-inj, divisor-pos}
 use Rattle.planner.proofs.Ringing.{ring-le, le-ring, rings-as-planned, count-ge, count-le}
@@ -47,7 +47,7 @@ module _ (w : ℕ) (pos : 1 ≤ asked w) where
       }
 
 -- a speed that the table doesn't refuse
-in-range : (w : ℕ) → (eqb w 0 || ltb perMinute w) ≡ false → (w ≡ 0 → ⊥) × (w ≤ perMinute)
+in-range : (w : ℕ) → isNoSpeed w ≡ false → (w ≡ 0 → ⊥) × (w ≤ perMinute)
 in-range w = go (eqb w 0) (ltb perMinute w) refl refl
   where
     go : (s t : Bool) → eqb w 0 ≡ s → ltb perMinute w ≡ t → (s || t) ≡ false → (w ≡ 0 → ⊥) × (w ≤ perMinute)
@@ -57,9 +57,9 @@ in-range w = go (eqb w 0) (ltb perMinute w) refl refl
 
 pub plan-of-is : (w : ℕ) → IsPlanned w (planOf w)
 unfolding planOf
-plan-of-is w = go (eqb w 0 || ltb perMinute w) refl
+plan-of-is w = go (isNoSpeed w) refl
   where
-    go : (t : Bool) → (eqb w 0 || ltb perMinute w) ≡ t → IsPlanned w (choose t Refused (plannedBy (bestTo (asked w) 7)))
+    go : (t : Bool) → isNoSpeed w ≡ t → IsPlanned w (choose t Refused (plannedBy (bestTo (asked w) 7)))
     go true e = record { answer = sym (ap (λ (t : Bool). choose t 6 0) e); plan = λ z. absurd (omega (arith, z)) }
     go false e =
         record {

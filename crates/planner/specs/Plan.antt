@@ -41,9 +41,13 @@ pub record IsPlan (w d l : ℕ) : Type 0 where
   -- "of equals, the smallest d"
   pub smallest : (e m : ℕ) → IsDivisor e → m ≤ 254 → ringsFrom e m ≡ ringsFrom d l → d ≤ e
 
--- "planned speed 0 or above 1,350,000" is answered 6, any other is accepted
+-- "planned speed 0 or above 1,350,000"
+abbrev pub isNoSpeed : ℕ → Bool
+isNoSpeed w = eqb w 0 || ltb perMinute w
+
+-- it is answered 6, any other is accepted
 abbrev pub answerFor : ℕ → ℕ
-answerFor w = choose (eqb w 0 || ltb perMinute w) 6 0
+answerFor w = choose (isNoSpeed w) 6 0
 
 -- the planner's answer to w: refused exactly when the table says so, and otherwise the plan
 pub record IsPlanned (w : ℕ) (p : Planned) : Type 0 where

@@ -1,13 +1,13 @@
 -- The plan, computed. `Plan` says what a plan is and that there is one only; this is how it is found, so that figures compute.
 use Prim.Native.Nat.{ℕ, zero, suc, _-_, _*_, _/_, min}
-use mathlib.Core.Bool.{_||_}
-use lib.Dec.{ltb, eqb}
+use lib.Dec.{ltb}
 use Rattle.bits.specs.Bits.{choose}
 use Rattle.planner.specs.declared.Choice.{Choice}
 use Rattle.planner.specs.declared.Planned.{Planned}
 use Rattle.planner.specs.declared.Planned.the-variants.{Plan, Refused}
 use Rattle.fan.specs.declared.Divisor.{Divisor}
 use Rattle.fan.specs.Count.{perMinute, valueOf, fromBits}
+use Rattle.planner.specs.Plan.{isNoSpeed}
 
 -- a divisor with the most counts of it that stay within k, at most 255
 abbrev pub choiceAt : ℕ → Divisor → Choice
@@ -32,4 +32,4 @@ plannedBy c = Plan (c .divisor) (c .counts - 1)
 
 -- refused for 0 and above 1,350,000, and otherwise the best of the eight
 unfoldable pub planOf : ℕ → Planned
-planOf w = choose (eqb w 0 || ltb perMinute w) Refused (plannedBy (bestTo (perMinute / w) 7))
+planOf w = choose (isNoSpeed w) Refused (plannedBy (bestTo (perMinute / w) 7))

@@ -83,8 +83,9 @@ pub fn plan(w: u32) -> Planned
 }
 
 // The undivided count from which a divisor and a limit ring.
-pub fn rings_from(divisor: Divisor, limit: u8) -> u32
-    ensures { λ r. ⌜ r ≡ ringsFrom (valueOf divisor) limit ⌝ }
+pub fn rings_from(divisor: Divisor, limit: u8) -> Undivided
+    ensures { λ r. ⌜ r .0 ≡ ringsFrom (valueOf divisor) limit ⌝ }
 {
-    (limit as u32 + 1) * (divisor.value() as u32)
+    let count = (limit as u32 + 1) * (divisor.value() as u32);
+    Undivided(count)
 }

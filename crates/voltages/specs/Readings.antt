@@ -9,17 +9,19 @@ use lib.ListN.{getD}
 use Rattle.bits.specs.Bits.{choose}
 use Rattle.rounding.specs.Rounding.{nearest}
 use Rattle.voltages.specs.declared.Reading.{Reading}
-use Rattle.voltages.specs.declared.Reading.the-variants.{Millivolts, Refused}
+use Rattle.voltages.specs.declared.Reading.the-variants.{Millivolts, Refused, WrongLength}
 
--- the number of the answer table
+-- the number of the answer table; 8 by decision D-01
 abbrev pub readingAnswer : Reading → ℕ
 readingAnswer (Millivolts z) = 0
 readingAnswer Refused = 7
+readingAnswer WrongLength = 8
 
 -- the millivolts that are read; refused: "reading 0"
 abbrev pub readingValue : Reading → ℤ
 readingValue (Millivolts z) = z
 readingValue Refused = pos 0
+readingValue WrongLength = pos 0
 
 -- "nearest, halves away from zero": z / d
 abbrev pub nearestZ : ℤ → ℕ → ℤ

@@ -27,6 +27,8 @@ pub enum Reading {
     Millivolts(i32),
     // Answer 7: no such channel, or a resistor out of range.
     Refused,
+    // Answer 8: a slice that is not the registers'.
+    WrongLength,
 }
 
 // (a - b) / d, nearest, halves away from zero.

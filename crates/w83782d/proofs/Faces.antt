@@ -1,10 +1,11 @@
 -- The methods by value from what the functions in place ensure.
 -- Assumes nothing.
-use mathlib.Core.Path.{_≡_, refl, ap}
+use mathlib.Core.Path.{_≡_, ap, _∙_}
 use mathlib.Core.List.{List}
-use Prim.Native.Nat.{ℕ, _≤_}
-use mathlib.Core.Bool.{false}
-use borrow.Author.Tests.{eq-eqb, ne-eqb}
+use Prim.Native.Nat.{ℕ}
+use mathlib.Core.Bool.{Bool}
+use native.Mathlib.Omega.{arith}
+use borrow.Author.Tests.{eq-eqb}
 use lib.ListN.{length}
 use Rattle.w83782d_map.specs.Map.{cells}
 use Rattle.w83782d_bus.specs.Bus as Bus
@@ -14,13 +15,16 @@ use Rattle.w83782d_bus.specs.Bus.{state, powerOn, written, Written, sized, size
 use Rattle.w83782d_latches.specs.declared.Latches.{Latches}
 use Rattle.w83782d_bus.specs.declared.Wrote.{Wrote}
 use Rattle.w83782d_bus.specs.declared.Seen.{Seen}
+use Rattle.w83782d_outputs.specs.Outputs.{smiOf, standingAlarms, outputsOf}
+use Rattle.w83782d_outputs.specs.declared.Outputs.{Outputs}
+use Rattle.w83782d_outputs.specs.declared.Outputs.the-variants as outputs
 use Rattle.event.specs.declared.Event.{Event}
 use Rattle.samples.specs.declared.Sample.{Sample}
 use Rattle.w83782d_replay.specs.Replay as Replay
 use Rattle.w83782d_sample.specs.Sample as Rule
 use Rattle.w83782d_settings.specs.Plan as Plan
 use Rattle.w83782d.specs.declared.Monitor.{Monitor}
-use Rattle.w83782d.specs.Monitor.{stateOf, monitorOf, answered, shown, powerOnOf, writeOf, readOf, sampleOf, setPlanOf, applyOf, ovtOf}
+use Rattle.w83782d.specs.Monitor.{stateOf, monitorOf, answered, shown, powerOnOf, writeOf, readOf, sampleOf, setPlanOf, applyOf}
 
 abbrev pub monitor : List ℕ → Latches → Monitor
 monitor rs l = record { registers = rs; latches = l }
@@ -65,11 +69,17 @@ apply-face m ts r e h g =
     let f : seenIn ts r ≡ Replay.applyOf (stateOf m) (e .kind) (e .sample) = rw (eq-eqb (length (m .registers)) cells h) at g in
     ap shown f
 
--- ---- OVT
-pub ovt-of : (k : ℕ) → 2 ≤ k → k ≤ 3 → (m : Monitor) (n : ℕ) → n ≡ k → remoteOf (m .latches) k .output .asserted ≡ ovtOf m n
-unfolding ovtOf
-ovt-of k h l m n e = rw e (both (λ k. remoteOf (m .latches) k .output .asserted ≡ ovtOf m k) refl refl k h l)
+-- ---- SMI and standing alarms: a monitor's registers are 112 cells
+module _ (m : Monitor) (o : Outputs) (h : length (m .registers) ≡ cells) (e : o ≡ outputsOf (m .registers) (m .latches .chassis)) where
+  shown-both : o ≡ outputs.Shown (smiOf (m .registers) (m .latches .chassis)) (standingAlarms (m .registers) (m .latches .chassis))
+  unfolding outputsOf
+  shown-both = e ∙ simp (eq-eqb (length (m .registers)) cells h)
 
-pub ovt-none : (m : Monitor) (n : ℕ) → (n ≡ 2 → ⊥) → (n ≡ 3 → ⊥) → false ≡ ovtOf m n
-unfolding ovtOf
-ovt-none m n p q = simp (ne-eqb n 2 p, ne-eqb n 3 q)
+  pub smi-face : (b : Bool) (n : ℕ) → o ≡ outputs.Shown b n → b ≡ smiOf (m .registers) (m .latches .chassis)
+  smi-face b n f = cc shown-both
+
+  pub alarms-face : (b : Bool) (n : ℕ) → o ≡ outputs.Shown b n → n ≡ standingAlarms (m .registers) (m .latches .chassis)
+  alarms-face b n f = cc shown-both
+
+  pub never-short : o ≡ outputs.WrongLength → ⊥
+  never-short f = let g = shown-both in let z : _≡_ {A = ℕ} 0 1 = cc in omega arith

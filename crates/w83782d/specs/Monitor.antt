@@ -1,10 +1,5 @@
 -- The monitor by value: the definitions of the crates below, on its registers and latches.
-use mathlib.Core.Bool.{Bool, false}
 use Prim.Native.Nat.{ℕ}
-use lib.Dec.{eqb}
-use lib.ListN.{getD}
-use Rattle.bits.specs.Bits.{choose}
-use Rattle.sensor.specs.Sensor.{armed}
 use Rattle.event.specs.declared.Event.{Event}
 use Rattle.samples.specs.declared.Sample.{Sample}
 use Rattle.w83782d_sample.specs.Sample as Rule
@@ -52,10 +47,3 @@ setPlanOf m f w = answered (Plan.setPlanOf (stateOf m) f w)
 -- "Four events: bus write, bus read, sample, chassis opened": any of them
 abbrev pub applyOf : Monitor → Event → Shown
 applyOf m e = shown (Replay.applyOf (stateOf m) (e .kind) (e .sample))
-
--- "OVT, for sensors 2 and 3": asserted or not. decision D-22
-unfoldable pub ovtOf : Monitor → ℕ → Bool
-ovtOf m n =
-    choose (eqb n 2) (getD (m .latches .remote) 0 armed .output .asserted)
-    (choose (eqb n 3) (getD (m .latches .remote) 1 armed .output .asserted)
-    false)

@@ -6,9 +6,10 @@ ghost use Rattle.w83782d_sample_laws.specs.Claims.{SampleClaims};
 ghost use Rattle.w83782d_settings.specs.Claims.{PlanClaims};
 ghost use Rattle.w83782d_alarm.specs.Alarm.{AlarmRings, SetsAlarm, SampleRings};
 ghost use Rattle.w83782d_alarm.specs.Events.{EventCalls};
+ghost use Rattle.w83782d_latches.specs.Ovt.{ovtOf};
 ghost use Rattle.w83782d_outputs.specs.Outputs.{smiOf, standingAlarms};
 ghost use Rattle.w83782d_readings.specs.Readings.{voltageOf, speedOf, temperatureOf, dutyOf};
-ghost use Rattle.w83782d.specs.Monitor.{stateOf, powerOnOf, writeOf, readOf, sampleOf, openedOf, setPlanOf, applyOf, ovtOf};
+ghost use Rattle.w83782d.specs.Monitor.{stateOf, powerOnOf, writeOf, readOf, sampleOf, openedOf, setPlanOf, applyOf};
 ghost use Rattle.w83782d.specs.Alarm.{MonitorCalls};
 use event::Event;
 use fan::Speed;
@@ -18,6 +19,9 @@ use w83782d_bus::power_on_in;
 use w83782d_bus::read_in;
 use w83782d_bus::write_in;
 use w83782d_latches::Latches;
+use w83782d_latches::Ovt;
+use w83782d_outputs::Outputs;
+use w83782d_outputs::outputs_of;
 use w83782d_plan::set_plan_in;
 use w83782d_readings::Duty;
 use w83782d_readings::Temperature;
@@ -181,7 +185,11 @@ impl Monitor {
     {
         let registers = self.registers;
         let latches = self.latches;
-        w83782d_outputs::smi(&registers, latches.chassis)
+        let outputs = outputs_of(&registers, latches.chassis);
+        match outputs {
+            Outputs::Shown { smi, alarms: _ } => smi,
+            Outputs::WrongLength => false,
+        }
     }
 
     // The number of standing alarms.
@@ -190,27 +198,19 @@ impl Monitor {
     {
         let registers = self.registers;
         let latches = self.latches;
-        w83782d_outputs::standing_alarms(&registers, latches.chassis)
+        let outputs = outputs_of(&registers, latches.chassis);
+        match outputs {
+            Outputs::Shown { smi: _, alarms } => alarms as u32,
+            Outputs::WrongLength => 0,
+        }
     }
 
-    // Whether the OVT output of sensor 2 or 3 is asserted; no other sensor has one.
-    pub fn ovt(self, sensor: u8) -> bool
-        ensures { λ r. ⌜ r ≡ ovtOf self sensor ⌝ }
+    // The OVT output of sensor 2 or 3; any other sensor is refused as 7.
+    pub fn ovt(self, sensor: u8) -> Ovt
+        ensures { λ r. ⌜ r ≡ ovtOf (self .latches) sensor ⌝ }
     {
         let latches = self.latches;
-        match sensor {
-            2 => {
-                let two = latches.remote[0];
-                let output = two.output;
-                output.asserted
-            }
-            3 => {
-                let three = latches.remote[1];
-                let output = three.output;
-                output.asserted
-            }
-            _ => false,
-        }
+        latches.ovt(sensor)
     }
 
     // The millivolts of a voltage channel, 0 to 6, with the resistors of the negative rails; any other is refused as 7.

@@ -5,13 +5,12 @@ use mathlib.Core.List.{List, _++_}
 use Prim.Native.Nat.{ℕ, _+_, _*_}
 use borrow.Author.Tests.{eq-eqb, ne-eqb}
 use lib.ListN.{length, take, drop}
-use lib.Seq.{sets}
 use Rattle.w83782d_latches.specs.declared.Latches.{Latches}
 use Rattle.w83782d_bus.specs.declared.Seen.{Seen}
 use Rattle.w83782d_map.specs.Map.{cells}
 use Rattle.w83782d_bus.specs.Bus.{state, readOf, sizedRead, seenIn}
 use Rattle.w83782d_bus_laws.proofs.Reached.{refused}
-use Rattle.w83782d_image.specs.Image.{imageLength, flagBytes, latchesIn, stateIn, called}
+use Rattle.w83782d_image.specs.Image.{imageLength, flagBytes, latchesIn, stateIn, putFrom, called}
 use Rattle.w83782d_image.proofs.Images.{shows-none, shows}
 use Rattle.w83782d_access.specs.Accesses.{callWrite, callRead}
 
@@ -29,6 +28,6 @@ module _ (im ts : List ℕ) (l : Latches) (h : length im ≡ imageLength) (el : 
   read-refused x n q = simp (eq-eqb (length im) imageLength h) (shows-none im ts l h el r (λ s. readOf s i) (refused (stateIn im) i 0 .read) e x n q)
 
   pub read-accepted : (u : List ℕ) (x : ℕ) → r .answer ≡ 0 → length (ts ++ drop cells im) ≡ imageLength
-      → u ≡ sets (ts ++ drop cells im) 112 (flagBytes (r .latches)) → x ≡ 0 * 256 + r .byte → called u x ≡ callRead im i
+      → u ≡ putFrom (ts ++ drop cells im) 112 (flagBytes (r .latches)) → x ≡ 0 * 256 + r .byte → called u x ≡ callRead im i
   unfolding callRead
   read-accepted u x z k g q = simp (eq-eqb (length im) imageLength h) (shows im ts l h el r (λ s. readOf s i) (refused (stateIn im) i 0 .read) e u x z k g q)

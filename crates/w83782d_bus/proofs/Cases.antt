@@ -15,7 +15,7 @@ use Rattle.w83782d_registers.specs.Parts.{restoredRegisters, restoredIn}
 use Rattle.w83782d_registers.proofs.Cases.{restored-in}
 use Rattle.w83782d_latches.specs.declared.Latches.{Latches}
 use Rattle.w83782d_latches.specs.Effects.{powerOnLatches, writtenLatches, readLatches}
-use Rattle.w83782d_bus.specs.Bus.{state, powerOn, writtenRegisters, writtenIn, writeOf, written, readRegisters, readOf, read, sized, sizedRead}
+use Rattle.w83782d_bus.specs.Bus.{state, powerOn, writtenRegisters, writtenIn, writeOf, written, readRegisters, readIn, readOf, read, sized, sizedRead}
 
 -- ---- power-on and reset
 restored-reset : (rs : List ℕ) → restoredRegisters true rs ≡ resetRegisters rs
@@ -66,17 +66,24 @@ module _ (rs : List ℕ) (l : Latches) (i v : ℕ) where
 -- ---- a read
 -- what a read leaves
 module _ (rs : List ℕ) (c : ℕ) where
-  pub clears-1 : (ts : List ℕ) → c ≡ interruptStatus1 → ts ≡ set rs interruptStatus1 0 → ts ≡ readRegisters rs c
-  unfolding readRegisters
-  clears-1 ts e f = f ∙ rw e
+  pub left-short : (length rs ≡ cells → ⊥) → rs ≡ readIn rs c
+  left-short n = simp (ne-eqb (length rs) cells n)
 
-  pub clears-2 : (ts : List ℕ) → c ≡ interruptStatus2 → ts ≡ set rs interruptStatus2 0 → ts ≡ readRegisters rs c
-  unfolding readRegisters
-  clears-2 ts e f = f ∙ rw e
+  module _ (h : length rs ≡ cells) where
+    pub left-whole : readIn rs c ≡ readRegisters rs c
+    left-whole = simp (eq-eqb (length rs) cells h)
 
-  pub clears-none : (c ≡ interruptStatus1 → ⊥) → (c ≡ interruptStatus2 → ⊥) → rs ≡ readRegisters rs c
-  unfolding readRegisters
-  clears-none m n = simp (ne-eqb c interruptStatus1 m, ne-eqb c interruptStatus2 n)
+    pub clears-1 : (ts : List ℕ) → c ≡ interruptStatus1 → ts ≡ set rs interruptStatus1 0 → ts ≡ readIn rs c
+    unfolding readRegisters
+    clears-1 ts e f = f ∙ rw (left-whole, e)
+
+    pub clears-2 : (ts : List ℕ) → c ≡ interruptStatus2 → ts ≡ set rs interruptStatus2 0 → ts ≡ readIn rs c
+    unfolding readRegisters
+    clears-2 ts e f = f ∙ rw (left-whole, e)
+
+    pub clears-none : (c ≡ interruptStatus1 → ⊥) → (c ≡ interruptStatus2 → ⊥) → rs ≡ readIn rs c
+    unfolding readRegisters
+    clears-none m n = simp (eq-eqb (length rs) cells h, ne-eqb c interruptStatus1 m, ne-eqb c interruptStatus2 n)
 
 module _ (rs : List ℕ) (l : Latches) (i : ℕ) where
   pub read-short : (length rs ≡ cells → ⊥) → read (state rs l) 8 0 ≡ sizedRead rs l (readOf (state rs l) i)
@@ -87,7 +94,7 @@ module _ (rs : List ℕ) (l : Latches) (i : ℕ) where
     unfolding readOf
     read-refused n = simp (eq-eqb (length rs) cells h, ← e, ← f, not-true p n)
 
-    pub read-accepted : (ts : List ℕ) (m : Latches) (b : ℕ) → not p ≡ false → b ≡ shownOf rs (l .chassis) c → m ≡ readLatches rs l c → ts ≡ readRegisters rs c
+    pub read-accepted : (ts : List ℕ) (m : Latches) (b : ℕ) → not p ≡ false → b ≡ shownOf rs (l .chassis) c → m ≡ readLatches rs l c → ts ≡ readIn rs c
         → read (state ts m) 0 b ≡ sizedRead rs l (readOf (state rs l) i)
     unfolding readOf
-    read-accepted ts m b n g k j = simp (eq-eqb (length rs) cells h, ← e, ← f, not-false p n, ← g, ← k, ← j)
+    read-accepted ts m b n g k j = simp (eq-eqb (length rs) cells h, ← e, ← f, not-false p n, ← g, ← k, j)

@@ -82,6 +82,9 @@ sizedRead rs l r = choose (fits rs) r (read (state rs l) 8 0)
 abbrev pub writtenIn : List ℕ → ℕ → ℕ → List ℕ
 writtenIn rs c v = choose (fits rs) (writtenRegisters rs c v) rs
 
+abbrev pub readIn : List ℕ → ℕ → List ℕ
+readIn rs c = choose (fits rs) (readRegisters rs c) rs
+
 -- what a function left in the slice, with what it returned
 abbrev pub wroteIn : List ℕ → Wrote → Written
 wroteIn rs w = written (state rs (w .latches)) (w .answer)

@@ -4,7 +4,7 @@ ghost use mathlib.Core.Path.{_≡_};
 ghost use lib.ListN.{length};
 ghost use Rattle.w83782d_map.specs.Map.{cells};
 ghost use Rattle.w83782d_latches.specs.Effects.{powerOnLatches};
-ghost use Rattle.w83782d_bus.specs.Bus.{state, powerOn, writtenIn, writeOf, written, readRegisters, readOf, sized, sizedRead, wroteIn, seenIn};
+ghost use Rattle.w83782d_bus.specs.Bus.{state, powerOn, writtenIn, writeOf, written, readIn, readOf, sized, sizedRead, wroteIn, seenIn};
 use bits::put;
 use bits::store;
 use w83782d_latches::Latches;
@@ -104,10 +104,14 @@ pub fn write_in(s: &mut [u8], l: Latches, index: u8, value: u8) -> Wrote
 
 // ---- Bus read: a look and an effect
 
-// A read of 41h or 42h clears it; the chassis bit is the latch and stays.
+// The registers after a read: one of 41h or 42h clears it; the chassis bit is the latch and stays.
+// A slice that is not of 112 cells stays.
 pub fn read_registers(s: &mut [u8], cell: usize)
-    ensures { λ r. ⌜ now (s .exit) ≡ readRegisters (now (s .entry)) cell ⌝ }
+    ensures { λ r. ⌜ now (s .exit) ≡ readIn (now (s .entry)) cell ⌝ }
 {
+    if s.len() != CELLS {
+        return;
+    }
     match cell {
         INTERRUPT_STATUS_1 => put(s, INTERRUPT_STATUS_1, 0),
         INTERRUPT_STATUS_2 => put(s, INTERRUPT_STATUS_2, 0),

@@ -8,7 +8,7 @@ use native.Mathlib.Numerals.{add-one, add-two}
 use native.Mathlib.Omega.{arith}
 use borrow.Author.Tests.{ne-eqb}
 use lib.Dec.{eqb}
-use lib.ListN.{getD, set}
+use lib.ListN.{length, getD, set}
 use lib.Seq.{sets, getD-set-other}
 use Rattle.bits.specs.Bits.{choose}
 use Rattle.bits.specs.Map.{tabulate}
@@ -16,7 +16,8 @@ use Rattle.sensor.specs.Sensor.{remote, output, armed}
 use Rattle.sensor.specs.declared.Mark.the-variants.{Armed, Hot}
 use Rattle.sensor.specs.declared.Remote.{Remote}
 use Rattle.w83782d_latches.specs.declared.Latches.{Latches}
-use Rattle.w83782d_image.specs.Image.{flagOf, markOf, flagByte, markByte, remoteBytes, flagBytes, latchesIn}
+use Rattle.w83782d_image.specs.Image.{imageLength, flagOf, markOf, flagByte, markByte, remoteBytes, flagBytes, latchesIn, putFrom}
+use Rattle.w83782d_image.proofs.Images.{put-whole}
 
 -- ---- stores
 pub put-byte : (im s : List ℕ) (at a b : ℕ) → a ≡ b → s ≡ set im at a → s ≡ set im at b
@@ -26,9 +27,9 @@ pub put-three : (im s t u : List ℕ) (at : ℕ) (r : Remote) → s ≡ set im a
     → u ≡ set t (at + 2) (flagByte (r .output .asserted)) → u ≡ sets im at (remoteBytes r)
 put-three im s t u at r es et eu = eu ∙ rw (et, es, add-one, add-two)
 
-pub put-eight : (im s t u v : List ℕ) (l : Latches) → s ≡ set im 112 (flagByte (l .chassis)) → t ≡ set s 113 (markByte (l .sensor1))
-    → u ≡ sets t 114 (remoteBytes (getD (l .remote) 0 armed)) → v ≡ sets u 117 (remoteBytes (getD (l .remote) 1 armed)) → v ≡ sets im 112 (flagBytes l)
-put-eight im s t u v l es et eu ev = ev ∙ rw (eu, et, es)
+pub put-eight : (im s t u v : List ℕ) (l : Latches) → length im ≡ imageLength → s ≡ set im 112 (flagByte (l .chassis)) → t ≡ set s 113 (markByte (l .sensor1))
+    → u ≡ sets t 114 (remoteBytes (getD (l .remote) 0 armed)) → v ≡ sets u 117 (remoteBytes (getD (l .remote) 1 armed)) → v ≡ putFrom im 112 (flagBytes l)
+put-eight im s t u v l h es et eu ev = ev ∙ (rw (eu, et, es)) ∙ sym (put-whole im 112 (flagBytes l) h)
 
 -- ---- looks
 pub flag-look : (x : ℕ) (im : List ℕ) (at : ℕ) → x ≡ getD im at 0 → not (eqb x 0) ≡ flagOf (getD im at 0)
@@ -95,7 +96,7 @@ mark-flag false = refl
 tidied-flags : (im : List ℕ) → tabulate 8 112 (tidied im) ≡ flagBytes (latchesIn im)
 tidied-flags im = simp mark-flag
 
-pub tidied-all : (im s : List ℕ) (at : ℕ) → at ≤ 120 → 120 ≤ at → s ≡ sets im 112 (tabulate (at - 112) 112 (tidied im)) → s ≡ sets im 112 (flagBytes (latchesIn im))
-tidied-all im s at h k es =
+pub tidied-all : (im s : List ℕ) (at : ℕ) → length im ≡ imageLength → at ≤ 120 → 120 ≤ at → s ≡ sets im 112 (tabulate (at - 112) 112 (tidied im)) → s ≡ putFrom im 112 (flagBytes (latchesIn im))
+tidied-all im s at w h k es =
     let e : at - 112 ≡ 8 = omega arith in
-    es ∙ ap (λ (n : ℕ). sets im 112 (tabulate n 112 (tidied im))) e ∙ ap (sets im 112) (tidied-flags im)
+    es ∙ ap (λ (n : ℕ). sets im 112 (tabulate n 112 (tidied im))) e ∙ ap (sets im 112) (tidied-flags im) ∙ sym (put-whole im 112 (flagBytes (latchesIn im)) w)

@@ -1,10 +1,10 @@
 // The flags of an image: the chassis latch, sensor 1's mark, then status mark, OVT mark and asserted of sensors 2 and 3, and the
-// eight spare bytes behind them. A byte beyond a short slice reads 0, a store there does nothing.
+// eight spare bytes behind them. A slice that is not an image of 128 bytes stays; a look at one takes a byte beyond it as 0.
 ghost use mathlib.Core.Path.{_≡_};
 ghost use Prim.Native.Nat.{_≤_, _+_, _*_};
 ghost use lib.ListN.{getD, set};
 ghost use lib.Seq.{sets};
-ghost use Rattle.w83782d_image.specs.Image.{imageLength, flagOf, markOf, flagByte, markByte, remoteAt, remoteBytes, latchesIn, flagBytes, spareZeros};
+ghost use Rattle.w83782d_image.specs.Image.{imageLength, flagOf, markOf, flagByte, markByte, remoteAt, remoteBytes, latchesIn, flagBytes, spareZeros, putFrom};
 use bits::cell;
 use bits::put;
 use sensor::Mark;
@@ -118,10 +118,13 @@ pub fn latches_in(image: &[u8]) -> Latches
     }
 }
 
-// An image given the latches' flags, as 0 or 1.
+// An image given the latches' flags, as 0 or 1. A slice of another length stays.
 pub fn put_latches(image: &mut [u8], latches: Latches)
-    ensures { λ r. ⌜ now (image .exit) ≡ sets (now (image .entry)) 112 (flagBytes latches) ⌝ }
+    ensures { λ r. ⌜ now (image .exit) ≡ putFrom (now (image .entry)) 112 (flagBytes latches) ⌝ }
 {
+    if image.len() != IMAGE {
+        return;
+    }
     let sensor1 = latches.sensor1;
     let two = latches.remote[0];
     let three = latches.remote[1];
@@ -139,9 +142,13 @@ pub fn chassis_in(image: &[u8]) -> bool
 }
 
 // The flags written as 0 or 1: what a call leaves that changes no latch, at a fraction of what reading and storing them costs.
+// A slice of another length stays.
 pub fn tidy(image: &mut [u8])
-    ensures { λ r. ⌜ now (image .exit) ≡ sets (now (image .entry)) 112 (flagBytes (latchesIn (now (image .entry)))) ⌝ }
+    ensures { λ r. ⌜ now (image .exit) ≡ putFrom (now (image .entry)) 112 (flagBytes (latchesIn (now (image .entry)))) ⌝ }
 {
+    if image.len() != IMAGE {
+        return;
+    }
     let mut at = CHASSIS;
     while at < SPARE {
         put(image, at, flag_byte(flag_at(image, at)));
@@ -149,10 +156,13 @@ pub fn tidy(image: &mut [u8])
     }
 }
 
-// The spare bytes made 0.
+// The spare bytes made 0. A slice of another length stays.
 pub fn clear_spare(image: &mut [u8])
-    ensures { λ r. ⌜ now (image .exit) ≡ sets (now (image .entry)) 120 spareZeros ⌝ }
+    ensures { λ r. ⌜ now (image .exit) ≡ putFrom (now (image .entry)) 120 spareZeros ⌝ }
 {
+    if image.len() != IMAGE {
+        return;
+    }
     let mut at = SPARE;
     while at < IMAGE {
         put(image, at, 0);

@@ -5,6 +5,7 @@ ghost use Prim.Native.Nat.{_≤_};
 ghost use Rattle.bits.specs.Bits.{choose};
 ghost use Rattle.w83782d_registers.specs.Registers.{isInterrupt};
 ghost use Rattle.w83782d_latches.specs.Effects.{powerOnLatches, resetLatches, writtenLatches, withReleased, readLatches, openedLatches};
+ghost use Rattle.w83782d_latches.specs.Ovt.{shownOvt, ovtOf, OvtClaims};
 use sensor::Mark;
 use sensor::Remote;
 use w83782d_map::BANK_1;
@@ -24,6 +25,24 @@ pub struct Latches {
     pub chassis: bool,
     pub sensor1: Mark,
     pub remote: [Remote; 2],
+}
+
+// What reading an OVT output answers.
+pub enum Ovt {
+    Asserted,
+    Released,
+    // Answer 7: no such output; only sensors 2 and 3 have one.
+    Refused,
+}
+
+// An output as it is read.
+fn shown_ovt(asserted: bool) -> Ovt
+    ensures { λ r. ⌜ r ≡ shownOvt asserted ⌝ }
+{
+    if asserted {
+        return Ovt::Asserted;
+    }
+    Ovt::Released
 }
 
 impl Latches {
@@ -59,6 +78,26 @@ impl Latches {
     {
         self.chassis = true;
         self
+    }
+
+    // The OVT output of sensor 2 or 3; any other sensor is refused as 7.
+    pub fn ovt(self, sensor: u8) -> Ovt
+        ensures equation { λ r. ⌜ r ≡ ovtOf self sensor ⌝ }
+        ensures claims { λ r. ⌜ OvtClaims ⌝ }
+    {
+        match sensor {
+            2 => {
+                let two = self.remote[0];
+                let output = two.output;
+                shown_ovt(output.asserted)
+            }
+            3 => {
+                let three = self.remote[1];
+                let output = three.output;
+                shown_ovt(output.asserted)
+            }
+            _ => Ovt::Refused,
+        }
     }
 
     // The OVT output of sensor 2 or 3 released.

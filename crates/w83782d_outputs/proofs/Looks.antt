@@ -4,16 +4,17 @@ use mathlib.Core.Path.{_≡_}
 use mathlib.Core.Bool.{Bool, true, false, not}
 use mathlib.Core.List.{List}
 use Prim.Native.Nat.{ℕ, _+_, _-_, _^_, _<_, _≤_}
-use borrow.Author.Tests.{not-true, not-false}
+use borrow.Author.Tests.{eq-eqb, ne-eqb, not-true, not-false}
 use lib.Bits.{bitAnd, bitOr}
 use native.Mathlib.Omega.{arith}
 use lib.Count.{ones, ones-le}
 use lib.Dec.{eqb}
-use lib.ListN.{getD}
+use lib.ListN.{length, getD}
 use Rattle.bits.specs.Bits.{isOn}
-use Rattle.w83782d_map.specs.Map.{configuration, interruptStatus1, interruptStatus2}
+use Rattle.w83782d_map.specs.Map.{cells, configuration, interruptStatus1, interruptStatus2}
 use Rattle.w83782d_registers.specs.Registers.{withChassis}
-use Rattle.w83782d_outputs.specs.Outputs.{smiMask1, smiMask2, smiOf, standingAlarms}
+use Rattle.w83782d_outputs.specs.Outputs.{smiMask1, smiMask2, smiOf, standingAlarms, outputsOf}
+use Rattle.w83782d_outputs.specs.declared.Outputs.the-variants.{Shown, WrongLength}
 
 -- ---- SMI
 module _ (rs : List ℕ) (chassis : Bool) (c : ℕ) (e : c ≡ getD rs configuration 0) (a : Bool) (f : a ≡ isOn c 1) where
@@ -38,3 +39,14 @@ pub alarms-counted : (rs : List ℕ) (chassis : Bool) (x y z : ℕ) → x ≡ ge
     → ones x + ones z ≡ standingAlarms rs chassis
 unfolding standingAlarms
 alarms-counted rs chassis x y z ex ey ez = rw (ez, ey, ex)
+
+-- ---- both, of any slice
+module _ (rs : List ℕ) (chassis : Bool) where
+  pub outputs-short : (length rs ≡ cells → ⊥) → WrongLength ≡ outputsOf rs chassis
+  unfolding outputsOf
+  outputs-short n = simp (ne-eqb (length rs) cells n)
+
+  pub outputs-shown : (b : Bool) (n : ℕ) → length rs ≡ cells → b ≡ smiOf rs chassis → (n ≡ standingAlarms rs chassis) × (n ≤ 16)
+      → Shown b n ≡ outputsOf rs chassis
+  unfolding outputsOf
+  outputs-shown b n h e f = simp (eq-eqb (length rs) cells h, e, f .0)

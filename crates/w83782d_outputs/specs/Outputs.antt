@@ -6,9 +6,11 @@ use lib.Bits.{bitAnd, bitOr}
 use lib.Count.{ones}
 use lib.Dec.{eqb}
 use lib.ListN.{getD}
-use Rattle.bits.specs.Bits.{isOn}
-use Rattle.w83782d_map.specs.Map.{at, configuration, interruptStatus1, interruptStatus2}
+use Rattle.bits.specs.Bits.{choose, isOn}
+use Rattle.w83782d_map.specs.Map.{at, fits, configuration, interruptStatus1, interruptStatus2}
 use Rattle.w83782d_registers.specs.Registers.{withChassis}
+use Rattle.w83782d_outputs.specs.declared.Outputs.{Outputs}
+use Rattle.w83782d_outputs.specs.declared.Outputs.the-variants.{Shown, WrongLength}
 
 abbrev pub smiMask1 : ℕ
 smiMask1 = at 0x43
@@ -37,3 +39,12 @@ smiOf rs chassis =
 -- "The number of standing alarms is the count of set bits in 41h and 42h."
 unfoldable pub standingAlarms : List ℕ → Bool → ℕ
 standingAlarms rs chassis = ones (status1 rs) + ones (status2 rs chassis)
+
+-- ---- of any slice: one that is not the registers' 112 cells is refused as 8. decision D-01
+unfoldable pub outputsOf : List ℕ → Bool → Outputs
+outputsOf rs chassis = choose (fits rs) (Shown (smiOf rs chassis) (standingAlarms rs chassis)) WrongLength
+
+-- the number of the answer table
+abbrev pub outputsAnswer : Outputs → ℕ
+outputsAnswer (Shown smi alarms) = 0
+outputsAnswer WrongLength = 8

@@ -1,27 +1,34 @@
--- The answers of the readings: a speed by its test, temperatures and duties number by number.
+-- The answers of the readings: of the registers a speed by its test, temperatures and duties number by number; of any slice by
+-- its length.
 -- Assumes nothing.
-use mathlib.Core.Path.{_≡_, refl, ap, _∙_}
+use mathlib.Core.Path.{_≡_, refl}
 use mathlib.Core.Bool.{Bool, true, false}
 use mathlib.Core.List.{List}
+use mathlib.Core.Logic.{_≢_}
 use Prim.Native.Nat.{ℕ, zero, suc, _*_}
 use native.Mathlib.Omega.{arith}
 use borrow.Author.Tests.{ne-eqb, lt-ltb, le-ltb}
 use lib.Dec.{eqb}
 use lib.IntN.{pos}
 use lib.ListN.{getD}
-use Rattle.bits.specs.Bits.{choose}
+use Rattle.bits.specs.Bits.{choose, isBeyond}
 use Rattle.rounding.specs.Rounding.{nearest}
 use Rattle.fan.specs.Count.{perMinute, valueOf}
 use Rattle.fan.specs.Speed as fan
 use Rattle.fan.specs.declared.Speed.{Speed}
 use Rattle.fan.specs.declared.Speed.the-variants as speed
-use Rattle.w83782d_store.specs.Stored.{fanCount, divisorOf}
+use Rattle.voltages.specs.declared.Reading.{Reading}
+use Rattle.voltages.specs.declared.Reading.the-variants as reading
+use Rattle.voltages.specs.Readings.{readingAnswer, readingValue, answerFor}
+use Rattle.voltages.proofs.Voltages.{answers-hold}
+use Rattle.w83782d_map.specs.Map.{fits}
+use Rattle.w83782d_store.specs.Stored.{voltage, fanCount, divisorOf}
 use Rattle.w83782d_readings.specs.declared.Temperature.{Temperature}
 use Rattle.w83782d_readings.specs.declared.Temperature.the-variants as temperature
 use Rattle.w83782d_readings.specs.declared.Duty.{Duty}
 use Rattle.w83782d_readings.specs.declared.Duty.the-variants as duty
-use Rattle.w83782d_readings.specs.Readings.{temperatureAnswer, temperatureValue, dutyAnswer, dutyValue, isBeyond, speedOf, temperatureOf, dutyOf}
-use Rattle.w83782d_readings.specs.Claims.{ReadingClaims}
+use Rattle.w83782d_readings.specs.Readings.{temperatureAnswer, temperatureValue, dutyAnswer, dutyValue, voltageAt, speedAt, temperatureAt, dutyAt, voltageOf, speedOf, temperatureOf, dutyOf}
+use Rattle.w83782d_readings.specs.Claims.{sizedAnswer, answerTo, ReadingClaims}
 
 -- ---- speeds: a count's own reading is never refused
 never : (count d : ℕ) → fan.speedAnswer (fan.speedOf count d) ≡ 0
@@ -33,61 +40,90 @@ never count d = go (eqb count 0) (eqb count 255) (nearest perMinute (count * d))
     go false true n = refl
     go false false n = refl
 
-speed-answer : (rs : List ℕ) (f : ℕ) → fan.speedAnswer (speedOf rs f) ≡ choose (isBeyond 3 f) 7 0
-unfolding speedOf
-speed-answer rs f = go (isBeyond 3 f)
+speed-at : (rs : List ℕ) (f : ℕ) → fan.speedAnswer (speedAt rs f) ≡ answerTo 3 f
+unfolding speedAt
+speed-at rs f = go (isBeyond 3 f)
   where
     go : (t : Bool) → fan.speedAnswer (choose t speed.Refused (fan.speedOf (getD rs (fanCount f) 0) (valueOf (divisorOf rs f)))) ≡ choose t 7 0
     go true = refl
     go false = never (getD rs (fanCount f) 0) (valueOf (divisorOf rs f))
 
 -- ---- temperatures and duties
-temperature-answer : (rs : List ℕ) (n : ℕ) → temperatureAnswer (temperatureOf rs n) ≡ choose (isBeyond 3 n) 7 0
-unfolding temperatureOf
-temperature-answer rs zero = refl
-temperature-answer rs (suc zero) = refl
-temperature-answer rs (suc (suc zero)) = refl
-temperature-answer rs (suc (suc (suc zero))) = refl
-temperature-answer rs (suc (suc (suc (suc k)))) =
+temperature-at : (rs : List ℕ) (n : ℕ) → temperatureAnswer (temperatureAt rs n) ≡ answerTo 3 n
+unfolding temperatureAt
+temperature-at rs zero = refl
+temperature-at rs (suc zero) = refl
+temperature-at rs (suc (suc zero)) = refl
+temperature-at rs (suc (suc (suc zero))) = refl
+temperature-at rs (suc (suc (suc (suc k)))) =
     let n = suc (suc (suc (suc k))) in
     simp (le-ltb n 1 (omega arith), lt-ltb 3 n (omega arith), ne-eqb n 1 (λ e. omega arith), ne-eqb n 2 (λ e. omega arith), ne-eqb n 3 (λ e. omega arith))
 
-duty-answer : (rs : List ℕ) (n : ℕ) → dutyAnswer (dutyOf rs n) ≡ choose (isBeyond 4 n) 7 0
-unfolding dutyOf
-duty-answer rs zero = refl
-duty-answer rs (suc zero) = refl
-duty-answer rs (suc (suc zero)) = refl
-duty-answer rs (suc (suc (suc zero))) = refl
-duty-answer rs (suc (suc (suc (suc zero)))) = refl
-duty-answer rs (suc (suc (suc (suc (suc k))))) =
+duty-at : (rs : List ℕ) (n : ℕ) → dutyAnswer (dutyAt rs n) ≡ answerTo 4 n
+unfolding dutyAt
+duty-at rs zero = refl
+duty-at rs (suc zero) = refl
+duty-at rs (suc (suc zero)) = refl
+duty-at rs (suc (suc (suc zero))) = refl
+duty-at rs (suc (suc (suc (suc zero)))) = refl
+duty-at rs (suc (suc (suc (suc (suc k))))) =
     let n = suc (suc (suc (suc (suc k)))) in
     simp (le-ltb n 1 (omega arith), lt-ltb 4 n (omega arith), ne-eqb n 1 (λ e. omega arith), ne-eqb n 2 (λ e. omega arith), ne-eqb n 3 (λ e. omega arith), ne-eqb n 4 (λ e. omega arith))
 
--- ---- what is answered 7 reads 0
-refused-speed : (s : Speed) → fan.speedAnswer s ≡ 7 → fan.speedValue s ≡ 0
-refused-speed (speed.Rpm n) e = absurd (omega arith)
+-- ---- any slice: 8 before these
+sized-answer : {A : Type 0} (number : A → ℕ) (t : Bool) (x y : A) (a : ℕ) → number x ≡ a → number y ≡ 8 → number (choose t x y) ≡ choose t a 8
+sized-answer number true x y a e f = e
+sized-answer number false x y a e f = f
+
+module _ (rs : List ℕ) (n : ℕ) where
+  voltage-answer : (r5 r6 : ℕ) → readingAnswer (voltageOf rs n r5 r6) ≡ sizedAnswer rs (answerFor n r5 r6)
+  unfolding voltageOf
+  voltage-answer r5 r6 = sized-answer readingAnswer (fits rs) (voltageAt rs n r5 r6) reading.WrongLength (answerFor n r5 r6) (answers-hold .exactly n (getD rs (voltage n) 0) r5 r6) refl
+
+  speed-answer : fan.speedAnswer (speedOf rs n) ≡ sizedAnswer rs (answerTo 3 n)
+  unfolding speedOf
+  speed-answer = sized-answer fan.speedAnswer (fits rs) (speedAt rs n) speed.WrongLength (answerTo 3 n) (speed-at rs n) refl
+
+  temperature-answer : temperatureAnswer (temperatureOf rs n) ≡ sizedAnswer rs (answerTo 3 n)
+  unfolding temperatureOf
+  temperature-answer = sized-answer temperatureAnswer (fits rs) (temperatureAt rs n) temperature.WrongLength (answerTo 3 n) (temperature-at rs n) refl
+
+  duty-answer : dutyAnswer (dutyOf rs n) ≡ sizedAnswer rs (answerTo 4 n)
+  unfolding dutyOf
+  duty-answer = sized-answer dutyAnswer (fits rs) (dutyAt rs n) duty.WrongLength (answerTo 4 n) (duty-at rs n) refl
+
+-- ---- what is refused reads 0
+refused-voltage : (r : Reading) → readingAnswer r ≢ 0 → readingValue r ≡ pos 0
+refused-voltage (reading.Millivolts z) e = absurd (e refl)
+refused-voltage reading.Refused e = refl
+refused-voltage reading.WrongLength e = refl
+
+refused-speed : (s : Speed) → fan.speedAnswer s ≢ 0 → fan.speedValue s ≡ 0
+refused-speed (speed.Rpm n) e = absurd (e refl)
 refused-speed speed.TooFast e = refl
 refused-speed speed.TooSlow e = refl
 refused-speed speed.Refused e = refl
+refused-speed speed.WrongLength e = refl
 
-refused-temperature : (t : Temperature) → temperatureAnswer t ≡ 7 → temperatureValue t ≡ pos 0
-refused-temperature (temperature.HalfDegrees z) e = absurd (omega arith)
+refused-temperature : (t : Temperature) → temperatureAnswer t ≢ 0 → temperatureValue t ≡ pos 0
+refused-temperature (temperature.HalfDegrees z) e = absurd (e refl)
 refused-temperature temperature.Refused e = refl
+refused-temperature temperature.WrongLength e = refl
 
-refused-duty : (d : Duty) → dutyAnswer d ≡ 7 → dutyValue d ≡ 0
-refused-duty (duty.Parts n) e = absurd (omega arith)
+refused-duty : (d : Duty) → dutyAnswer d ≢ 0 → dutyValue d ≡ 0
+refused-duty (duty.Parts n) e = absurd (e refl)
 refused-duty duty.Refused e = refl
-
-seven : (t : Bool) {a : ℕ} → a ≡ choose t 7 0 → t ≡ true → a ≡ 7
-seven t e h = e ∙ ap (λ (b : Bool). choose b 7 0) h
+refused-duty duty.WrongLength e = refl
 
 pub reading-claims : ReadingClaims
 reading-claims =
     record {
+      voltage = λ rs n r5 r6. voltage-answer rs n r5 r6;
+      no-voltage = λ rs n r5 r6 e. refused-voltage (voltageOf rs n r5 r6) e;
       speed = speed-answer;
-      no-speed = λ rs f e. refused-speed (speedOf rs f) (seven (isBeyond 3 f) (speed-answer rs f) e);
+      no-speed = λ rs f e. refused-speed (speedOf rs f) e;
       temperature = temperature-answer;
-      no-temperature = λ rs n e. refused-temperature (temperatureOf rs n) (seven (isBeyond 3 n) (temperature-answer rs n) e);
+      no-temperature = λ rs n e. refused-temperature (temperatureOf rs n) e;
       duty = duty-answer;
-      no-duty = λ rs n e. refused-duty (dutyOf rs n) (seven (isBeyond 4 n) (duty-answer rs n) e);
+      no-duty = λ rs n e. refused-duty (dutyOf rs n) e;
     }

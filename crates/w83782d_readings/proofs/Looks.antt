@@ -3,9 +3,9 @@
 use mathlib.Core.Path.{_≡_, ap, ap₂, _∙_}
 use mathlib.Core.List.{List, [], _∷_}
 use Prim.Native.Nat.{ℕ, _-_, _<_, _≤_}
-use borrow.Author.Tests.{ne-eqb, lt-ltb, le-ltb}
+use borrow.Author.Tests.{eq-eqb, ne-eqb, lt-ltb, le-ltb}
 use lib.IntN.{ℤ}
-use lib.ListN.{getD}
+use lib.ListN.{length, getD}
 use Rattle.fields.specs.Fields.{placesOf}
 use Rattle.fields.specs.declared.Field.{Field}
 use Rattle.bits.proofs.Match.{NoKey}
@@ -19,62 +19,85 @@ use Rattle.voltages.specs.Readings.{millivoltsOf, Answers}
 use Rattle.analog.specs.Temperature.{TwosComplement}
 use Rattle.analog.specs.Pwm.{pwmParts}
 use Rattle.voltages.specs.declared.Reading.{Reading}
+use Rattle.voltages.specs.declared.Reading.the-variants as reading
+use Rattle.w83782d_map.specs.Map.{cells}
 use Rattle.w83782d_store.specs.Stored.{voltage, fanCount, divisorPlaces}
 use Rattle.w83782d_readings.specs.declared.Temperature.the-variants as temperature
 use Rattle.w83782d_readings.specs.declared.Duty.the-variants as duty
-use Rattle.w83782d_readings.specs.Readings.{voltageOf, speedOf, halfDegrees, temperatureOf, dutyOf}
+use Rattle.w83782d_readings.specs.Readings.{voltageOf, speedAt, speedOf, halfDegrees, temperatureAt, temperatureOf, dutyAt, dutyOf}
 
-pub voltage-read : (rs : List ℕ) (channel code r5 r6 : ℕ) (m : Reading) → code ≡ getD rs (voltage channel) 0 → (m ≡ millivoltsOf channel code r5 r6) × Answers → m ≡ voltageOf rs channel r5 r6
-voltage-read rs channel code r5 r6 m e f = f .0 ∙ ap (λ (c : ℕ). millivoltsOf channel c r5 r6) e
+-- ---- a slice of another length
+module _ (rs : List ℕ) (w : length rs ≡ cells → ⊥) where
+  pub voltage-short : (channel r5 r6 : ℕ) → reading.WrongLength ≡ voltageOf rs channel r5 r6
+  unfolding voltageOf
+  voltage-short channel r5 r6 = simp (ne-eqb (length rs) cells w)
 
-module _ (rs : List ℕ) (f : ℕ) where
-  pub no-fan-0 : f < 1 → speed.Refused ≡ speedOf rs f
+  pub speed-short : (f : ℕ) → speed.WrongLength ≡ speedOf rs f
   unfolding speedOf
-  no-fan-0 h = simp (lt-ltb f 1 h)
+  speed-short f = simp (ne-eqb (length rs) cells w)
+
+  pub temperature-short : (n : ℕ) → temperature.WrongLength ≡ temperatureOf rs n
+  unfolding temperatureOf
+  temperature-short n = simp (ne-eqb (length rs) cells w)
+
+  pub duty-short : (n : ℕ) → duty.WrongLength ≡ dutyOf rs n
+  unfolding dutyOf
+  duty-short n = simp (ne-eqb (length rs) cells w)
+
+-- ---- the registers
+pub voltage-read : (rs : List ℕ) (channel code r5 r6 : ℕ) (m : Reading) → length rs ≡ cells → code ≡ getD rs (voltage channel) 0 → (m ≡ millivoltsOf channel code r5 r6) × Answers
+    → m ≡ voltageOf rs channel r5 r6
+unfolding voltageOf
+voltage-read rs channel code r5 r6 m w e f = simp (eq-eqb (length rs) cells w) (f .0 ∙ ap (λ (c : ℕ). millivoltsOf channel c r5 r6) e)
+
+module _ (rs : List ℕ) (f : ℕ) (w : length rs ≡ cells) where
+  pub no-fan-0 : f < 1 → speed.Refused ≡ speedOf rs f
+  unfolding speedOf speedAt
+  no-fan-0 h = simp (eq-eqb (length rs) cells w, lt-ltb f 1 h)
 
   pub no-fan-4 : 1 ≤ f → 3 < f → speed.Refused ≡ speedOf rs f
-  unfolding speedOf
-  no-fan-4 h k = simp (le-ltb f 1 h, lt-ltb 3 f k)
+  unfolding speedOf speedAt
+  no-fan-4 h k = simp (eq-eqb (length rs) cells w, le-ltb f 1 h, lt-ltb 3 f k)
 
   pub fan-read : (p : Field) (d : Divisor) (n : ℕ) (r : Speed) → 1 ≤ f → f ≤ 3 → placesOf p ≡ divisorPlaces f → d ≡ divisorAt rs (placesOf p) → n ≡ getD rs (fanCount f) 0
       → r ≡ fan.speedOf n (valueOf d) → r ≡ speedOf rs f
-  unfolding speedOf
+  unfolding speedOf speedAt
   fan-read p d n r h k ep ed en er =
-      simp (le-ltb f 1 h, le-ltb 3 f k) (er ∙ ap₂ (λ (x : ℕ) (y : Divisor). fan.speedOf x (valueOf y)) en (ed ∙ ap (divisorAt rs) ep))
+      simp (eq-eqb (length rs) cells w, le-ltb f 1 h, le-ltb 3 f k) (er ∙ ap₂ (λ (x : ℕ) (y : Divisor). fan.speedOf x (valueOf y)) en (ed ∙ ap (divisorAt rs) ep))
 
-module _ (rs : List ℕ) (n : ℕ) where
+module _ (rs : List ℕ) (n : ℕ) (w : length rs ≡ cells) where
   pub sensor-1 : (h : ℕ) (z : ℤ) → n ≡ 1 → h ≡ getD rs 7 0 → (z ≡ halfDegrees h 0) × TwosComplement → temperature.HalfDegrees z ≡ temperatureOf rs n
-  unfolding temperatureOf
-  sensor-1 h z e f g = rw e (ap temperature.HalfDegrees (g .0 ∙ ap (λ (x : ℕ). halfDegrees x 0) f))
+  unfolding temperatureOf temperatureAt
+  sensor-1 h z e f g = simp (eq-eqb (length rs) cells w, e) (ap temperature.HalfDegrees (g .0 ∙ ap (λ (x : ℕ). halfDegrees x 0) f))
 
   pub sensor-2 : (h l : ℕ) (z : ℤ) → n ≡ 2 → h ≡ getD rs 64 0 → l ≡ getD rs 65 0 → (z ≡ halfDegrees h l) × TwosComplement → temperature.HalfDegrees z ≡ temperatureOf rs n
-  unfolding temperatureOf
-  sensor-2 h l z e f k g = rw e (ap temperature.HalfDegrees (g .0 ∙ ap₂ halfDegrees f k))
+  unfolding temperatureOf temperatureAt
+  sensor-2 h l z e f k g = simp (eq-eqb (length rs) cells w, e) (ap temperature.HalfDegrees (g .0 ∙ ap₂ halfDegrees f k))
 
   pub sensor-3 : (h l : ℕ) (z : ℤ) → n ≡ 3 → h ≡ getD rs 80 0 → l ≡ getD rs 81 0 → (z ≡ halfDegrees h l) × TwosComplement → temperature.HalfDegrees z ≡ temperatureOf rs n
-  unfolding temperatureOf
-  sensor-3 h l z e f k g = rw e (ap temperature.HalfDegrees (g .0 ∙ ap₂ halfDegrees f k))
+  unfolding temperatureOf temperatureAt
+  sensor-3 h l z e f k g = simp (eq-eqb (length rs) cells w, e) (ap temperature.HalfDegrees (g .0 ∙ ap₂ halfDegrees f k))
 
   pub no-sensor : NoKey ((3 ∷ []) ∷ (2 ∷ []) ∷ (1 ∷ []) ∷ []) n → temperature.Refused ≡ temperatureOf rs n
-  unfolding temperatureOf
-  no-sensor m = simp (ne-eqb n 3 (m .1), ne-eqb n 2 (m .0 .1), ne-eqb n 1 (m .0 .0 .1))
+  unfolding temperatureOf temperatureAt
+  no-sensor m = simp (eq-eqb (length rs) cells w, ne-eqb n 3 (m .1), ne-eqb n 2 (m .0 .1), ne-eqb n 1 (m .0 .0 .1))
 
   pub duty-1 : (b p : ℕ) → n ≡ 1 → b ≡ getD rs 59 0 → p ≡ pwmParts b → duty.Parts p ≡ dutyOf rs n
-  unfolding dutyOf
-  duty-1 b p e f g = rw e (ap duty.Parts (g ∙ ap pwmParts f))
+  unfolding dutyOf dutyAt
+  duty-1 b p e f g = simp (eq-eqb (length rs) cells w, e) (ap duty.Parts (g ∙ ap pwmParts f))
 
   pub duty-2 : (b p : ℕ) → n ≡ 2 → b ≡ getD rs 58 0 → p ≡ pwmParts b → duty.Parts p ≡ dutyOf rs n
-  unfolding dutyOf
-  duty-2 b p e f g = rw e (ap duty.Parts (g ∙ ap pwmParts f))
+  unfolding dutyOf dutyAt
+  duty-2 b p e f g = simp (eq-eqb (length rs) cells w, e) (ap duty.Parts (g ∙ ap pwmParts f))
 
   pub duty-3 : (b p : ℕ) → n ≡ 3 → b ≡ getD rs 62 0 → p ≡ pwmParts b → duty.Parts p ≡ dutyOf rs n
-  unfolding dutyOf
-  duty-3 b p e f g = rw e (ap duty.Parts (g ∙ ap pwmParts f))
+  unfolding dutyOf dutyAt
+  duty-3 b p e f g = simp (eq-eqb (length rs) cells w, e) (ap duty.Parts (g ∙ ap pwmParts f))
 
   pub duty-4 : (b p : ℕ) → n ≡ 4 → b ≡ getD rs 63 0 → p ≡ pwmParts b → duty.Parts p ≡ dutyOf rs n
-  unfolding dutyOf
-  duty-4 b p e f g = rw e (ap duty.Parts (g ∙ ap pwmParts f))
+  unfolding dutyOf dutyAt
+  duty-4 b p e f g = simp (eq-eqb (length rs) cells w, e) (ap duty.Parts (g ∙ ap pwmParts f))
 
   pub no-duty : NoKey ((4 ∷ []) ∷ (3 ∷ []) ∷ (2 ∷ []) ∷ (1 ∷ []) ∷ []) n → duty.Refused ≡ dutyOf rs n
-  unfolding dutyOf
-  no-duty m = simp (ne-eqb n 4 (m .1), ne-eqb n 3 (m .0 .1), ne-eqb n 2 (m .0 .0 .1), ne-eqb n 1 (m .0 .0 .0 .1))
+  unfolding dutyOf dutyAt
+  no-duty m = simp (eq-eqb (length rs) cells w, ne-eqb n 4 (m .1), ne-eqb n 3 (m .0 .1), ne-eqb n 2 (m .0 .0 .1), ne-eqb n 1 (m .0 .0 .0 .1))

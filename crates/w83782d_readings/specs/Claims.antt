@@ -1,19 +1,31 @@
--- What is claimed of the readings, of every stored byte (document 01, "Answer numbers"; decision D-24 for PWM).
+-- What is claimed of the readings, of every slice and every stored byte (document 01, "Answer numbers"; decisions D-01, D-24).
 -- The definitions are those that the contracts cite (Readings.antt).
 use mathlib.Core.Path.{_≡_}
-use mathlib.Core.Bool.{true}
 use mathlib.Core.List.{List}
+use mathlib.Core.Logic.{_≢_}
 use Prim.Native.Nat.{ℕ}
 use lib.IntN.{pos}
-use Rattle.bits.specs.Bits.{choose}
+use Rattle.bits.specs.Bits.{choose, isBeyond}
 use Rattle.fan.specs.Speed.{speedAnswer, speedValue}
-use Rattle.w83782d_readings.specs.Readings.{temperatureAnswer, temperatureValue, dutyAnswer, dutyValue, isBeyond, speedOf, temperatureOf, dutyOf}
+use Rattle.voltages.specs.Readings.{readingAnswer, readingValue, answerFor}
+use Rattle.w83782d_map.specs.Map.{fits}
+use Rattle.w83782d_readings.specs.Readings.{temperatureAnswer, temperatureValue, dutyAnswer, dutyValue, voltageOf, speedOf, temperatureOf, dutyOf}
 
--- 7 exactly where there is no such fan, sensor or output, else 0; refused: "reading 0"
+-- 8 exactly for a slice that is not the registers' 112 cells, and of the registers this answer
+abbrev pub sizedAnswer : List ℕ → ℕ → ℕ
+sizedAnswer rs a = choose (fits rs) a 8
+
+-- 7 exactly for a number that is not 1 to the last
+abbrev pub answerTo : ℕ → ℕ → ℕ
+answerTo last n = choose (isBeyond last n) 7 0
+
+-- the whole answer, 8 before 7; refused: "reading 0"
 pub record ReadingClaims : Type 0 where
-  pub speed : (rs : List ℕ) (f : ℕ) → speedAnswer (speedOf rs f) ≡ choose (isBeyond 3 f) 7 0
-  pub no-speed : (rs : List ℕ) (f : ℕ) → isBeyond 3 f ≡ true → speedValue (speedOf rs f) ≡ 0
-  pub temperature : (rs : List ℕ) (n : ℕ) → temperatureAnswer (temperatureOf rs n) ≡ choose (isBeyond 3 n) 7 0
-  pub no-temperature : (rs : List ℕ) (n : ℕ) → isBeyond 3 n ≡ true → temperatureValue (temperatureOf rs n) ≡ pos 0
-  pub duty : (rs : List ℕ) (n : ℕ) → dutyAnswer (dutyOf rs n) ≡ choose (isBeyond 4 n) 7 0
-  pub no-duty : (rs : List ℕ) (n : ℕ) → isBeyond 4 n ≡ true → dutyValue (dutyOf rs n) ≡ 0
+  pub voltage : (rs : List ℕ) (n r5 r6 : ℕ) → readingAnswer (voltageOf rs n r5 r6) ≡ sizedAnswer rs (answerFor n r5 r6)
+  pub no-voltage : (rs : List ℕ) (n r5 r6 : ℕ) → readingAnswer (voltageOf rs n r5 r6) ≢ 0 → readingValue (voltageOf rs n r5 r6) ≡ pos 0
+  pub speed : (rs : List ℕ) (f : ℕ) → speedAnswer (speedOf rs f) ≡ sizedAnswer rs (answerTo 3 f)
+  pub no-speed : (rs : List ℕ) (f : ℕ) → speedAnswer (speedOf rs f) ≢ 0 → speedValue (speedOf rs f) ≡ 0
+  pub temperature : (rs : List ℕ) (n : ℕ) → temperatureAnswer (temperatureOf rs n) ≡ sizedAnswer rs (answerTo 3 n)
+  pub no-temperature : (rs : List ℕ) (n : ℕ) → temperatureAnswer (temperatureOf rs n) ≢ 0 → temperatureValue (temperatureOf rs n) ≡ pos 0
+  pub duty : (rs : List ℕ) (n : ℕ) → dutyAnswer (dutyOf rs n) ≡ sizedAnswer rs (answerTo 4 n)
+  pub no-duty : (rs : List ℕ) (n : ℕ) → dutyAnswer (dutyOf rs n) ≢ 0 → dutyValue (dutyOf rs n) ≡ 0

@@ -1,11 +1,10 @@
 -- Readings of the stored values (document 01, "Readings").
-use mathlib.Core.Bool.{Bool, _||_}
 use mathlib.Core.List.{List}
 use Prim.Native.Nat.{ℕ, _+_}
-use lib.Dec.{ltb, eqb}
+use lib.Dec.{eqb}
 use lib.IntN.{ℤ, pos}
 use lib.ListN.{getD}
-use Rattle.bits.specs.Bits.{choose}
+use Rattle.bits.specs.Bits.{choose, isBeyond}
 use Rattle.fan.specs.Count.{valueOf}
 use Rattle.fan.specs.Speed as fan
 use Rattle.fan.specs.declared.Speed.{Speed}
@@ -14,7 +13,8 @@ use Rattle.voltages.specs.Readings.{millivoltsOf}
 use Rattle.analog.specs.Temperature.{half9, signedOf, nineBits}
 use Rattle.analog.specs.Pwm.{pwmParts}
 use Rattle.voltages.specs.declared.Reading.{Reading}
-use Rattle.w83782d_map.specs.Map.{at, bankCell}
+use Rattle.voltages.specs.declared.Reading.the-variants as reading
+use Rattle.w83782d_map.specs.Map.{at, fits, bankCell}
 use Rattle.w83782d_store.specs.Stored.{voltage, sensor1Value, fanCount, divisorOf}
 use Rattle.w83782d_readings.specs.declared.Temperature.{Temperature}
 use Rattle.w83782d_readings.specs.declared.Temperature.the-variants as temperature
@@ -25,33 +25,35 @@ use Rattle.w83782d_readings.specs.declared.Duty.the-variants as duty
 abbrev pub temperatureAnswer : Temperature → ℕ
 temperatureAnswer (temperature.HalfDegrees z) = 0
 temperatureAnswer temperature.Refused = 7
+temperatureAnswer temperature.WrongLength = 8
 
 -- the half degrees that are read; refused: "reading 0"
 abbrev pub temperatureValue : Temperature → ℤ
 temperatureValue (temperature.HalfDegrees z) = z
 temperatureValue temperature.Refused = pos 0
+temperatureValue temperature.WrongLength = pos 0
 
 -- the number of the answer table; a PWM output other than 1 to 4 is refused as 7. decision D-24
 abbrev pub dutyAnswer : Duty → ℕ
 dutyAnswer (duty.Parts n) = 0
 dutyAnswer duty.Refused = 7
+dutyAnswer duty.WrongLength = 8
 
 -- the parts that are read; refused: "reading 0"
 abbrev pub dutyValue : Duty → ℕ
 dutyValue (duty.Parts n) = n
 dutyValue duty.Refused = 0
+dutyValue duty.WrongLength = 0
 
--- "not 1 to 3", or to another last one
-abbrev pub isBeyond : ℕ → ℕ → Bool
-isBeyond last n = ltb n 1 || ltb last n
+-- ---- the readings of the registers
 
 -- the millivolts of the code stored for a channel
-abbrev pub voltageOf : List ℕ → ℕ → ℕ → ℕ → Reading
-voltageOf rs channel r5 r6 = millivoltsOf channel (getD rs (voltage channel) 0) r5 r6
+abbrev pub voltageAt : List ℕ → ℕ → ℕ → ℕ → Reading
+voltageAt rs channel r5 r6 = millivoltsOf channel (getD rs (voltage channel) 0) r5 r6
 
 -- "Speed takes the stored count and the divisor now set"; a fan other than 1 to 3 is answered 7
-unfoldable pub speedOf : List ℕ → ℕ → Speed
-speedOf rs f =
+unfoldable pub speedAt : List ℕ → ℕ → Speed
+speedAt rs f =
     choose (isBeyond 3 f) speed.Refused
     (fan.speedOf (getD rs (fanCount f) 0) (valueOf (divisorOf rs f)))
 
@@ -60,18 +62,31 @@ abbrev pub halfDegrees : ℕ → ℕ → ℤ
 halfDegrees high low = signedOf half9 (nineBits high low)
 
 -- a sensor other than 1 to 3 is answered 7, as a fan is
-unfoldable pub temperatureOf : List ℕ → ℕ → Temperature
-temperatureOf rs n =
+unfoldable pub temperatureAt : List ℕ → ℕ → Temperature
+temperatureAt rs n =
     choose (eqb n 1) (temperature.HalfDegrees (halfDegrees (getD rs sensor1Value 0) 0))
     (choose (eqb n 2) (temperature.HalfDegrees (halfDegrees (getD rs (bankCell 2) 0) (getD rs (bankCell 2 + 1) 0)))
     (choose (eqb n 3) (temperature.HalfDegrees (halfDegrees (getD rs (bankCell 3) 0) (getD rs (bankCell 3 + 1) 0)))
     temperature.Refused))
 
 -- "PWM byte x is on for x of 256 parts": outputs 1 to 4 are 5Bh, 5Ah, 5Eh, 5Fh
-unfoldable pub dutyOf : List ℕ → ℕ → Duty
-dutyOf rs n =
+unfoldable pub dutyAt : List ℕ → ℕ → Duty
+dutyAt rs n =
     choose (eqb n 1) (duty.Parts (pwmParts (getD rs (at 0x5B) 0)))
     (choose (eqb n 2) (duty.Parts (pwmParts (getD rs (at 0x5A) 0)))
     (choose (eqb n 3) (duty.Parts (pwmParts (getD rs (at 0x5E) 0)))
     (choose (eqb n 4) (duty.Parts (pwmParts (getD rs (at 0x5F) 0)))
     duty.Refused)))
+
+-- ---- and of any slice: one that is not the registers' 112 cells is refused as 8, before 7. decision D-01
+unfoldable pub voltageOf : List ℕ → ℕ → ℕ → ℕ → Reading
+voltageOf rs channel r5 r6 = choose (fits rs) (voltageAt rs channel r5 r6) reading.WrongLength
+
+unfoldable pub speedOf : List ℕ → ℕ → Speed
+speedOf rs f = choose (fits rs) (speedAt rs f) speed.WrongLength
+
+unfoldable pub temperatureOf : List ℕ → ℕ → Temperature
+temperatureOf rs n = choose (fits rs) (temperatureAt rs n) temperature.WrongLength
+
+unfoldable pub dutyOf : List ℕ → ℕ → Duty
+dutyOf rs n = choose (fits rs) (dutyAt rs n) duty.WrongLength

@@ -1,5 +1,5 @@
 // The readings of the stored values: millivolts, speeds, temperatures, PWM duties.
-// Each looks at the registers' slice and changes nothing; a cell beyond a short slice counts as 0.
+// Each looks at the registers' slice and changes nothing; a slice that is not of 112 cells is refused as 8.
 ghost use mathlib.Core.Path.{_≡_};
 ghost use Rattle.w83782d_readings.specs.Readings.{voltageOf, speedOf, temperatureOf, dutyOf};
 ghost use Rattle.w83782d_readings.specs.Claims.{ReadingClaims};
@@ -13,6 +13,7 @@ use voltages::Reading;
 use voltages::millivolts;
 use w83782d_map::BANK_1;
 use w83782d_map::BANK_2;
+use w83782d_map::CELLS;
 use w83782d_map::PWM_DUTY_1;
 use w83782d_map::PWM_DUTY_2;
 use w83782d_map::PWM_DUTY_3;
@@ -36,6 +37,8 @@ pub enum Temperature {
     HalfDegrees(i16),
     // Answer 7: there is no such sensor.
     Refused,
+    // Answer 8: a slice that is not the registers'.
+    WrongLength,
 }
 
 // What reading a PWM duty answers.
@@ -44,12 +47,18 @@ pub enum Duty {
     Parts(u16),
     // Answer 7: there is no such output.
     Refused,
+    // Answer 8: a slice that is not the registers'.
+    WrongLength,
 }
 
 // The millivolts of a voltage channel, 0 to 6, with the resistors of the negative rails.
 pub fn voltage(s: &[u8], channel: u8, r5: u32, r6: u32) -> Reading
-    ensures { λ r. ⌜ r ≡ voltageOf (now (s .entry)) channel r5 r6 ⌝ }
+    ensures equation { λ r. ⌜ r ≡ voltageOf (now (s .entry)) channel r5 r6 ⌝ }
+    ensures claims { λ r. ⌜ ReadingClaims ⌝ }
 {
+    if s.len() != CELLS {
+        return Reading::WrongLength;
+    }
     millivolts(channel, cell(s, VCOREA + channel as usize), r5, r6)
 }
 
@@ -58,6 +67,9 @@ pub fn speed(s: &[u8], fan: u8) -> Speed
     ensures equation { λ r. ⌜ r ≡ speedOf (now (s .entry)) fan ⌝ }
     ensures claims { λ r. ⌜ ReadingClaims ⌝ }
 {
+    if s.len() != CELLS {
+        return Speed::WrongLength;
+    }
     if fan < 1 {
         return Speed::Refused;
     }
@@ -74,6 +86,9 @@ pub fn temperature_of(s: &[u8], sensor: u8) -> Temperature
     ensures equation { λ r. ⌜ r ≡ temperatureOf (now (s .entry)) sensor ⌝ }
     ensures claims { λ r. ⌜ ReadingClaims ⌝ }
 {
+    if s.len() != CELLS {
+        return Temperature::WrongLength;
+    }
     match sensor {
         1 => Temperature::HalfDegrees(half_degrees(cell(s, SENSOR_1), 0)),
         2 => Temperature::HalfDegrees(half_degrees(cell(s, SENSOR_2), cell(s, SENSOR_2 + 1))),
@@ -87,6 +102,9 @@ pub fn duty_of(s: &[u8], output: u8) -> Duty
     ensures equation { λ r. ⌜ r ≡ dutyOf (now (s .entry)) output ⌝ }
     ensures claims { λ r. ⌜ ReadingClaims ⌝ }
 {
+    if s.len() != CELLS {
+        return Duty::WrongLength;
+    }
     match output {
         1 => Duty::Parts(pwm_parts(cell(s, PWM_DUTY_1))),
         2 => Duty::Parts(pwm_parts(cell(s, PWM_DUTY_2))),

@@ -1,15 +1,13 @@
--- The answer to a sample by its three tests, and the range of the half degrees by the two signs.
+-- The answer to a sample by its three tests.
 -- Assumes nothing.
 use mathlib.Core.Path.{_≡_, refl, ap, sym, _∙_}
 use mathlib.Core.Bool.{Bool, true, false, not, _&&_, _||_}
 use Prim.Native.Nat.{ℕ, _<_, _≤_}
 use native.Mathlib.Omega.{arith}
-use borrow.Author.Tests.{ltb-true, ltb-false, lt-ltb, le-ltb}
-use lib.Dec.{eqb, ltb, lit<}
-use lib.IntN.{ℤ, pos, negsuc}
+use lib.Dec.{eqb, lit<}
 use Rattle.bits.specs.Bits.{choose}
-use Rattle.analog.specs.Temperature.{half9, holds}
-use Rattle.numbers.specs.Numbers.{outside}
+use Rattle.analog.specs.Temperature.{half9, holds, outside}
+use Rattle.analog.proofs.Complement.{held}
 use Rattle.samples.specs.declared.Sample.{Sample}
 use Rattle.w83782d_registers.proofs.Cases.{both}
 use Rattle.w83782d_bus.specs.Bus.{State}
@@ -17,24 +15,6 @@ use Rattle.w83782d_store.specs.Stored.{halvesOf, sampleAnswer}
 use Rattle.w83782d_sample.specs.Sample.{sampleOf}
 use Rattle.w83782d_sample_laws.specs.Claims.{isStandby, Refused}
 use Rattle.w83782d_sample_laws.proofs.Stores.{sample-answer, refused-state}
-
--- ---- -256 to 255
-not-below : (n : ℕ) → not (ltb n 256) ≡ ltb 255 n
-not-below n = go (ltb n 256) refl
-  where
-    go : (b : Bool) → ltb n 256 ≡ b → not (ltb n 256) ≡ ltb 255 n
-    go true e = rw (e, le-ltb 255 n (omega (arith, ltb-true n 256 e)))
-    go false e = rw (e, lt-ltb 255 n (omega (arith, ltb-false n 256 e)))
-
-or-none : (b : Bool) → b ≡ (b || false)
-or-none true = refl
-or-none false = refl
-
--- what nine bits hold is not outside
-not-held : (t : ℤ) → not (holds half9 t) ≡ outside t
-unfolding outside
-not-held (pos n) = not-below n
-not-held (negsuc n) = not-below n ∙ or-none (ltb 255 n)
 
 -- ---- the three tests in order
 abbrev inOrder : Bool → Bool → Bool → ℕ
@@ -87,17 +67,10 @@ none-far true b c e = absurd (omega arith)
 none-far false true c e = absurd (omega arith)
 none-far false false c e = (refl, refl)
 
-not-far : (t : ℤ) → outside t ≡ false → holds half9 t ≡ true
-not-far t e = go (holds half9 t) refl
-  where
-    go : (b : Bool) → holds half9 t ≡ b → holds half9 t ≡ true
-    go true h = h
-    go false h = let z : true ≡ false = sym (ap not h) ∙ not-held t ∙ e in cc
-
 module _ (s : State) (x : Sample) (a : sampleOf s x .answer ≡ 0) where
   near : (outside (halvesOf x 2) ≡ false) × (outside (halvesOf x 3) ≡ false)
   unfolding sampleAnswer
   near = none-far (outside (halvesOf x 2)) (outside (halvesOf x 3)) (isStandby s) (sym (sample-answer s x) ∙ a)
 
   pub in-range : (n : ℕ) → 2 ≤ n → n ≤ 3 → holds half9 (halvesOf x n) ≡ true
-  in-range = both (λ n. holds half9 (halvesOf x n) ≡ true) (not-far (halvesOf x 2) (near .0)) (not-far (halvesOf x 3) (near .1))
+  in-range = both (λ n. holds half9 (halvesOf x n) ≡ true) (held (halvesOf x 2) (near .0)) (held (halvesOf x 3) (near .1))

@@ -12,11 +12,10 @@ use lib.ListN.{length, getD}
 use lib.Signed.{ltZ}
 use Rattle.bits.specs.Bits.{bit, isOn, choose, flagOf}
 use Rattle.bits.specs.Map.{any, bank, Span, span, among}
-use Rattle.analog.specs.Temperature.{half8, half9, signedOf, nineBits}
+use Rattle.analog.specs.Temperature.{half8, half9, signedOf, nineBits, outside}
 use Rattle.sensor.specs.Sensor.{statusOf, outputOf}
 use Rattle.sensor.specs.declared.Status.{Status}
 use Rattle.sensor.specs.declared.Output.{Output}
-use Rattle.numbers.specs.Numbers.{outside}
 use Rattle.samples.specs.declared.Sample.{Sample}
 use Rattle.w83782d_map.specs.Map.{cells, at, bankAt, indexAt, configuration, interruptStatus1, interruptStatus2, realTimeStatus2, bankCell}
 use Rattle.w83782d_registers.specs.Registers.{reachOf}

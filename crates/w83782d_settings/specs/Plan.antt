@@ -1,7 +1,7 @@
 -- Setting a plan on a state (document 01, "Planning a fan alarm").
 use Prim.Native.Nat.{ℕ}
-use Rattle.bits.specs.Bits.{choose}
-use Rattle.fan_settings.specs.Settings.{Fan, fanAt, plannedRegisters, isNoFan}
+use Rattle.bits.specs.Bits.{choose, isBeyond}
+use Rattle.fan_settings.specs.Settings.{Fan, fanAt, plannedRegisters}
 use Rattle.planner.specs.Plan.{planAnswer}
 use Rattle.planner.specs.Search.{planOf}
 use Rattle.w83782d_bus.specs.Bus.{State, state, Written, written}
@@ -18,5 +18,5 @@ fanOf f = fanAt (fanLimit f) (divisorPlaces f)
 -- "whatever bank is selected and whether or not samples are stopped"; 7 before 6, refused: "state unchanged"
 unfoldable pub setPlanOf : State → ℕ → ℕ → Written
 setPlanOf s f w =
-    choose (isNoFan fans f) (written s 7)
+    choose (isBeyond fans f) (written s 7)
     (written (state (plannedRegisters (s .registers) (fanOf f) (planOf w)) (s .latches)) (planAnswer (planOf w)))

@@ -14,12 +14,11 @@ use Rattle.fields.specs.declared.Field.{Field}
 use Rattle.fan.specs.Count.{valueOf, storedOf}
 use Rattle.fan.specs.Divisors.{divisorAt}
 use Rattle.fan.specs.declared.Divisor.{Divisor}
-use Rattle.analog.specs.Temperature.{halfCodeOf}
+use Rattle.analog.specs.Temperature.{outside, halfCodeOf}
 use Rattle.analog.specs.declared.HalfCode.{HalfCode}
 use Rattle.analog.specs.declared.HalfCode.the-variants.{Code, OutOfRange}
 use Rattle.samples.specs.declared.Sample.{Sample}
 use Rattle.w83782d_map.specs.Map.{cells}
-use Rattle.numbers.specs.Numbers.{outside}
 use Rattle.w83782d_store.specs.Stored.{fanCount, divisorPlaces, divisorOf, halvesOf, countOf, storedReadings, isStopped, sampleAnswer}
 use Rattle.w83782d_store.specs.Parts.{fieldOf, withCounts, withCodes, withHalves, storedIn}
 

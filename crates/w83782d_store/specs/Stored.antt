@@ -13,8 +13,7 @@ use Rattle.fan.specs.Count.{valueOf, storedOf}
 use Rattle.fan.specs.Divisors.{divisorAt}
 use Rattle.fan.specs.declared.Divisor.{Divisor}
 use Rattle.fan.specs.declared.Undivided.{Undivided}
-use Rattle.analog.specs.Temperature.{half8, codeOf, halfCodeOf, halfHigh, halfLow}
-use Rattle.numbers.specs.Numbers.{outside}
+use Rattle.analog.specs.Temperature.{half8, codeOf, outside, halfCodeOf, halfHigh, halfLow}
 use Rattle.samples.specs.declared.Sample.{Sample}
 use Rattle.w83782d_map.specs.Map.{at, configuration, bankCell}
 

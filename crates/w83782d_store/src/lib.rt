@@ -10,6 +10,7 @@ ghost use Rattle.w83782d_store.specs.Stored.{divisorPlaces, divisorOf, i
 ghost use Rattle.w83782d_store.specs.Parts.{fieldOf, withCounts, withCodes, withHalves, storedIn};
 use analog::HalfCode;
 use analog::half_code;
+use analog::is_outside;
 use analog::whole_code;
 use bits::Bit;
 use bits::cell;
@@ -19,7 +20,6 @@ use fan::Undivided;
 use fan::divide;
 use fields::Field;
 use fields::Place;
-use numbers::is_outside;
 use samples::Sample;
 use w83782d_map::BANK_1;
 use w83782d_map::BANK_2;

@@ -2,11 +2,13 @@
 -- Assumes nothing.
 use Prim.Native.Nat.{_≤_, _-_}
 use native.Mathlib.Omega.{arith}
-use mathlib.Core.Path.{_≡_, refl, ap, _∙_}
+use mathlib.Core.Path.{_≡_, refl, sym, _∙_}
+use Rattle.w83782d_image.specs.Image.{spareZeros}
 use lib.ListN.{length}
 use Rattle.bits.specs.Map.{tabulate}
 use lib.Seq.{sets}
 use borrow.Author.Needs.{needs}
+use Rattle.w83782d_image.proofs.Images.{put-none, put-whole}
 use Rattle.w83782d_flags.proofs.Flags.{cleared-byte, clears-next}
 use Rattle.w83782d_flags.proofs.clear_spare.Statement.{statement}
 use Rattle.w83782d_flags.proofs.clear_spare.Tie as tie
@@ -16,6 +18,9 @@ Inv-loop image₀ at₀ image at = (120 ≤ at) × (at ≤ 128) × (length image
 
 abbrev μ-loop : tie.MeasureT-loop
 μ-loop image₀ at₀ image at = 128 - at
+
+returns : tie.Need-returns Inv-loop μ-loop
+returns c = search (needs, put-none)
 
 loop-holds : tie.Need-loop-holds Inv-loop μ-loop
 loop-holds c = (search needs, search needs, refl, refl)
@@ -35,12 +40,12 @@ loop-again c = (omega arith, omega arith, search needs, search (needs, clears-ne
 same-length : tie.Need-same-length Inv-loop μ-loop
 same-length c = search needs
 
-returns : tie.Need-returns Inv-loop μ-loop
-returns c =
+returns-2 : tie.Need-returns-2 Inv-loop μ-loop
+returns-2 c =
     let l = c .before .loop in
     let e : l .at - 120 ≡ 8 = omega arith in
-    l .inv .3 ∙ rw e
+    l .inv .3 ∙ (rw e) ∙ sym (put-whole _ 120 spareZeros (search needs))
 
 pub clear-spare-spec : {M : Type 1} → statement M
 clear-spare-spec =
-    tie.close (tie.spec Inv-loop μ-loop loop-holds put-requires add-at loop-less loop-again same-length returns)
+    tie.close (tie.spec Inv-loop μ-loop returns loop-holds put-requires add-at loop-less loop-again same-length returns-2)

@@ -1,7 +1,11 @@
 use borrow.Author.Needs.{needs}
+use Rattle.w83782d_image.proofs.Images.{put-none}
 use Rattle.w83782d_flags.proofs.Flags.{put-eight}
 use Rattle.w83782d_flags.proofs.put_latches.Statement.{statement}
 use Rattle.w83782d_flags.proofs.put_latches.Tie as tie
+
+returns : tie.Need-returns
+returns c = search (needs, put-none)
 
 element-copy-out-two : tie.Need-element-copy-out-two
 element-copy-out-two c = search needs
@@ -24,13 +28,14 @@ put-remote-requires-2 c κs = search needs
 same-length : tie.Need-same-length
 same-length c = search needs
 
-returns : tie.Need-returns
-returns c = search (needs, put-eight)
+returns-2 : tie.Need-returns-2
+returns-2 c = search (needs, put-eight)
 
 pub put-latches-spec : {M : Type 1} → statement M
 put-latches-spec =
     tie.close
     (tie.spec
+    returns
     element-copy-out-two
     element-copy-out-three
     put-flag-requires
@@ -38,4 +43,4 @@ put-latches-spec =
     put-remote-requires
     put-remote-requires-2
     same-length
-    returns)
+    returns-2)

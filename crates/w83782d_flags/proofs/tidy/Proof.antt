@@ -7,6 +7,7 @@ use lib.ListN.{length}
 use lib.Seq.{sets}
 use borrow.Author.Needs.{needs}
 use Rattle.bits.specs.Map.{tabulate}
+use Rattle.w83782d_image.proofs.Images.{put-none}
 use Rattle.w83782d_flags.proofs.Flags.{tidied, tidies-next, tidied-all}
 use Rattle.w83782d_flags.proofs.tidy.Statement.{statement}
 use Rattle.w83782d_flags.proofs.tidy.Tie as tie
@@ -17,6 +18,9 @@ Inv-loop image₀ at₀ image at =
 
 abbrev μ-loop : tie.MeasureT-loop
 μ-loop image₀ at₀ image at = 120 - at
+
+returns : tie.Need-returns Inv-loop μ-loop
+returns c = search (needs, put-none)
 
 loop-holds : tie.Need-loop-holds Inv-loop μ-loop
 loop-holds c = (search needs, search needs, refl, refl)
@@ -37,13 +41,23 @@ loop-less : tie.Need-loop-less Inv-loop μ-loop
 loop-less c = search needs
 
 loop-again : tie.Need-loop-again Inv-loop μ-loop
-loop-again c = (omega arith, omega arith, search needs, search (needs, tidies-next))
+loop-again c =
+    let put = c .before .before in
+    let byte = put .before in
+    let look = byte .before in
+    let turn = look .before .before .before .before in
+    let inv = turn .loop .inv in (
+      omega arith,
+      omega arith,
+      search needs,
+      tidies-next (turn .before .before .before .args .image .now) _ _ _ _ _ (inv .0) (inv .3) (look .flag-at .ensures) (byte .flag-byte .ensures) (put .put .ensures),
+    )
 
 same-length : tie.Need-same-length Inv-loop μ-loop
 same-length c = search needs
 
-returns : tie.Need-returns Inv-loop μ-loop
-returns c = search (needs, tidied-all)
+returns-2 : tie.Need-returns-2 Inv-loop μ-loop
+returns-2 c = search (needs, tidied-all)
 
 pub tidy-spec : {M : Type 1} → statement M
 tidy-spec =
@@ -51,6 +65,7 @@ tidy-spec =
     (tie.spec
     Inv-loop
     μ-loop
+    returns
     loop-holds
     flag-at-requires
     flag-byte-requires
@@ -59,4 +74,4 @@ tidy-spec =
     loop-less
     loop-again
     same-length
-    returns)
+    returns-2)

@@ -3,7 +3,7 @@ use mathlib.Core.Path.{ap, _∙_}
 use mir.Syntax.{w16}
 use mir.Val.{SFits}
 use mir.ValLaws.{toZ-ofZ}
-use Rattle.numbers.specs.Numbers.{outside}
+use Rattle.analog.specs.Temperature.{outside}
 use Rattle.w83782d_store.specs.Stored.{halvesOf}
 use Rattle.w83782d_store.proofs.Rules.{answer-2, answer-3, answer-stopped, answer-accepted}
 use Rattle.w83782d_store.proofs.answer_to.Statement.{statement}

@@ -1,4 +1,4 @@
--- The marked figures hold: both columns compute to the same list.
+-- The marked figures hold: the table is whole, and both columns compute to the same list.
 -- Assumes nothing.
 use mathlib.Core.Path.{refl}
 use Rattle.rounding.specs.Rounding.{nearest}
@@ -10,4 +10,4 @@ use Rattle.figures.specs.Figures.{Figures}
 
 pub figures-hold : Figures
 unfolding fromBits better bestTo planOf speedOf nearest railOf millivoltsOf
-figures-hold = refl
+figures-hold = (refl, refl)

@@ -3,6 +3,7 @@ use Prim.Native.Nat.{ℕ}
 use mathlib.Core.Path.{_≡_}
 use mathlib.Core.List.{List, [], _∷_, map}
 use lib.IntN.{ℤ, pos, negℤ}
+use lib.ListN.{length}
 use Rattle.planner.specs.Plan.{planAnswer, planDivisor, planLimit}
 use Rattle.planner.specs.Search.{planOf}
 use Rattle.fan.specs.Speed.{speedAnswer, speedValue, speedOf}
@@ -71,6 +72,8 @@ figures =
     ∷ (volts minus12 182 232 56 ⇒ number-is (pos 62))
     ∷ []
 
--- every question of the table is told what the table says
+-- all thirteen, and every question of the table is told what the table says
 abbrev pub Figures : Type 0
-Figures = map (λ (f : Figure). tells (f .question)) figures ≡ map (λ (f : Figure). f .told) figures
+Figures =
+    (length figures ≡ 13)
+    × (map (λ (f : Figure). tells (f .question)) figures ≡ map (λ (f : Figure). f .told) figures)

@@ -8,7 +8,7 @@ use Prim.Native.Nat.{ℕ, _+_, _-_, _%_, _<_, _≤_}
 use native.Mathlib.Nat.{mod-mod}
 use native.Mathlib.Decide.{decLt}
 use native.Mathlib.Omega.{arith}
-use borrow.Author.Tests.{lt-ltb, le-ltb, le-leb, eqb-true}
+use borrow.Author.Tests.{lt-ltb, le-ltb, le-leb, eqb-true, not-false}
 use lib.Bits.{bitAnd, bitOr, and-mask, mask-lt, and-mod, or-mod, and-zero-r, or-zero-l}
 use lib.Dec.{T, eqb, eqb→eq, ltb, lit<}
 use lib.ListN.{length, getD}
@@ -16,7 +16,7 @@ use lib.Seq.{getD-set-same}
 use Rattle.bits.specs.Bits.{bit, choose, mergeOf, changes}
 use Rattle.bits.specs.Map.{among}
 use Rattle.bits.proofs.BitLaws.{choose-ind}
-use Rattle.bits.proofs.Every.{every-at2, beq-same}
+use Rattle.bits.proofs.Every.{every-at, every-at2, beq-same}
 use Rattle.w83782d_map.specs.Map.{cells, presentAt, writableAt, rows, bankSelect}
 use Rattle.w83782d_map.specs.Access.{writeAnswer, storedBits}
 use Rattle.w83782d_registers.specs.Registers.{cellOf, bankOf, reachOf}
@@ -179,6 +179,11 @@ then : (a b : Bool) → T (not a || b) → a ≡ true → T b
 then true b t e = t
 then false b t e = absurd (false≢true e)
 
+else : (a b : Bool) → T (a || not b) → a ≡ false → b ≡ false
+else true b t e = absurd (false≢true (sym e))
+else false true t e = absurd t
+else false false t e = refl
+
 absent-from : (b k : ℕ) → b < 8 → k < 16 → isAbsent b ≡ true → cellOf b (0x50 + k) ≡ cells
 unfolding absentCell cellOf
 absent-from b k hb hk e = eqb→eq (cellOf b (0x50 + k)) cells (then (isAbsent b) (eqb (cellOf b (0x50 + k)) cells) (every-at2 absentCell 8 16 tt b k hb hk) e)
@@ -196,7 +201,28 @@ present-none : presentAt cells ≡ false
 unfolding presentAt
 present-none = refl
 
+-- and in every other one there is a register
+otherCell : ℕ → Bool
+otherCell b = isAbsent b || not (among answers1 b (choose (eqb b 4) 0x59 0x56))
+
+other-listed : (b : ℕ) → b < 8 → isAbsent b ≡ false → among answers1 b (choose (eqb b 4) 0x59 0x56) ≡ false
+unfolding otherCell answers1
+other-listed b hb e = else (isAbsent b) (among answers1 b (choose (eqb b 4) 0x59 0x56)) (every-at otherCell 8 tt b hb) e
+
+other-index : (b : ℕ) → choose (eqb b 4) 0x59 0x56 < 256
+other-index b = choose-ind (λ (i : ℕ). i < 256) (eqb b 4) 0x59 0x56 (λ _. lit< tt) (λ _. lit< tt)
+
+other-present : (b : ℕ) → b < 8 → isAbsent b ≡ false → presentAt (cellOf b (choose (eqb b 4) 0x59 0x56)) ≡ true
+other-present b hb e =
+    not-false (presentAt (cellOf b (choose (eqb b 4) 0x59 0x56)))
+    (absent-listed b (choose (eqb b 4) 0x59 0x56) hb (other-index b) ∙ other-listed b hb e)
+
 pub absent : (s : State) (i v : ℕ) → AbsentBank s i v
-absent s i v e h k =
-    let c : reachOf (s .registers) i ≡ cells = absent-cell (bankOf (s .registers)) i (bank-lt (s .registers)) e h k in
-    (write-answer s i v ∙ ap writeAnswer c ∙ answer-none, read-answer s i ∙ rw (c, present-none))
+absent s i v =
+    let b = bankOf (s .registers) in
+    record {
+      absent = λ e h k.
+          let c : reachOf (s .registers) i ≡ cells = absent-cell b i (bank-lt (s .registers)) e h k in
+          (write-answer s i v ∙ ap writeAnswer c ∙ answer-none, read-answer s i ∙ rw (c, present-none));
+      others = λ e. read-answer s (choose (eqb b 4) 0x59 0x56) ∙ ap (λ (p : Bool). choose p 0 1) (other-present b (bank-lt (s .registers)) e);
+    }

@@ -91,12 +91,14 @@ pub record BankSelected (s : State) (v : ℕ) : Type 0 where
   pub accepted : writeOf s 0x4E v .answer ≡ 0
   pub selects : bankOf (writeOf s 0x4E v .state .registers) ≡ bitAnd v 0b0000_0111
 
--- banks 3, 5, 6, 7: 50h-5Fh answers 1
+-- banks 3, 5, 6, 7
 abbrev pub isAbsent : ℕ → Bool
 isAbsent b = eqb b 3 || eqb b 5 || eqb b 6 || eqb b 7
 
-abbrev pub AbsentBank : State → ℕ → ℕ → Type 0
-AbsentBank s i v = isAbsent (bankOf (s .registers)) ≡ true → 0x50 ≤ i → i ≤ 0x5F → (writeOf s i v .answer ≡ 1) × (readOf s i .answer ≡ 1)
+-- in these all of 50h-5Fh answers 1, and in no other bank: 56h of banks 0 to 2 is a register, and 59h of bank 4
+pub record AbsentBank (s : State) (i v : ℕ) : Type 0 where
+  pub absent : isAbsent (bankOf (s .registers)) ≡ true → 0x50 ≤ i → i ≤ 0x5F → (writeOf s i v .answer ≡ 1) × (readOf s i .answer ≡ 1)
+  pub others : isAbsent (bankOf (s .registers)) ≡ false → readOf s (choose (eqb (bankOf (s .registers)) 4) 0x59 0x56) .answer ≡ 0
 
 -- ---- what stays: each latch and mark, by name
 pub record SameMarks (s t : State) : Type 0 where

@@ -125,6 +125,16 @@ unfolding outside
 beyond (pos n) = not-below n
 beyond (negsuc n) = or-none (ltb 255 n) ∙ not-below n
 
+-- the tests in the code's order
+module _ (z : ℤ) where
+  pub too-cold : ltZ z (negsuc 255) ≡ true → true ≡ outside z
+  unfolding outside
+  too-cold e = simp e
+
+  pub too-hot : ltZ z (negsuc 255) ≡ false → ltZ (pos 255) z ≡ outside z
+  unfolding outside
+  too-hot e = simp e
+
 pub twos-complement-holds : TwosComplement
 twos-complement-holds = record { there = there; back = back; in-range = in-range; beyond = beyond; bytes = bytes; levels = levels }
 

@@ -12,6 +12,7 @@ use lib.Dec.{ltb}
 use lib.Pow.{pow-pos, pow-mono}
 use borrow.Author.Tests.{ltb-true, ltb-false, lt-ltb, le-ltb}
 use Rattle.bits.specs.Bits.{choose}
+use Rattle.bits.proofs.BitLaws.{choose-ind}
 use Rattle.planner.specs.declared.Choice.{Choice}
 use Rattle.fan.specs.declared.Divisor.{Divisor}
 use Rattle.fan.specs.Count.{exponentOf, valueOf, fromBits}
@@ -46,30 +47,31 @@ module _ (k e : ℕ) (c : Choice) (fits : suc e < 8) (b : Best k e c) where
   abbrev next : Choice
   next = choiceAt k (fromBits (suc e))
 
-  pick : (t : Bool) → ltb (productOf c) (productOf next) ≡ t → Best k (suc e) (choose t next c)
-  pick true q =
+  larger : productOf c < productOf next → Best k (suc e) next
+  larger high =
       record {
         exponent-le = le-of-eq (exponent-from-bits (suc e) fits);
         counts-le = min-le-left 255 _;
         within = at-within k (fromBits (suc e));
         largest = λ j m hj hm hw. ⊎-elim
-            (λ p. le-trans (b .largest j m p hm hw) (le-of-lt (ltb-true _ _ q)))
+            (λ p. le-trans (b .largest j m p hm hw) (le-of-lt high))
             (λ p. at-exponent k m (suc e) j fits p hm hw) (le-or j e hj);
         smallest = λ j m hj hm s. ⊎-elim
             (λ p.
             let low : m * 2 ^ j ≤ productOf c = b .largest j m p hm (le-trans (le-of-eq s) (at-within k (fromBits (suc e)))) in
-            let high : productOf c < productOf next = ltb-true _ _ q in
             absurd (omega arith))
             (λ p. le-of-eq (value-from-bits (suc e) fits ∙ sym (ap (λ (x : ℕ). 2 ^ x) p))) (le-or j e hj);
       }
-  pick false q =
+
+  no-larger : productOf next ≤ productOf c → Best k (suc e) c
+  no-larger low =
       record {
         exponent-le = omega (arith, b .exponent-le);
         counts-le = b .counts-le;
         within = b .within;
         largest = λ j m hj hm hw. ⊎-elim
             (λ p. b .largest j m p hm hw)
-            (λ p. le-trans (at-exponent k m (suc e) j fits p hm hw) (ltb-false _ _ q)) (le-or j e hj);
+            (λ p. le-trans (at-exponent k m (suc e) j fits p hm hw) low) (le-or j e hj);
         smallest = λ j m hj hm s. ⊎-elim
             (λ p. b .smallest j m p hm s)
             (λ p. pow-mono {i = exponentOf (c .divisor)} {j = j} (omega (arith, b .exponent-le))) (le-or j e hj);
@@ -77,7 +79,7 @@ module _ (k e : ℕ) (c : Choice) (fits : suc e < 8) (b : Best k e c) where
 
   step : Best k (suc e) (better k c (fromBits (suc e)))
   unfolding better
-  step = pick _ refl
+  step = choose-ind (Best k (suc e)) _ next c (λ q. larger (ltb-true _ _ q)) (λ q. no-larger (ltb-false _ _ q))
 
 pub best : (k e : ℕ) → e < 8 → Best k e (bestTo k e)
 unfolding bestTo

@@ -7,10 +7,10 @@ use Rattle.planner.proofs.plan.Statement.{statement}
 use Rattle.planner.proofs.plan.Tie as tie
 
 returns : tie.Need-returns
-returns c = promised _ (none-asked _ (c .if1 .taken))
+returns c = promised _ (none-asked _ (omega (arith, c .if1 .taken)))
 
 returns-2 : tie.Need-returns-2
-returns-2 c = promised _ (too-much-asked _ (c .before .if1 .left) (c .if2 .taken))
+returns-2 c = promised _ (too-much-asked _ (c .before .if1 .left) (omega (arith, c .if2 .taken)))
 
 div-best-choice : tie.Need-div-best-choice
 div-best-choice c = search needs

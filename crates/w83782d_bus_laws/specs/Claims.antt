@@ -97,8 +97,10 @@ isAbsent b = eqb b 3 || eqb b 5 || eqb b 6 || eqb b 7
 
 -- in these all of 50h-5Fh answers 1, and in no other bank: 56h of banks 0 to 2 is a register, and 59h of bank 4
 pub record AbsentBank (s : State) (i v : ℕ) : Type 0 where
-  pub absent : isAbsent (bankOf (s .registers)) ≡ true → 0x50 ≤ i → i ≤ 0x5F → (writeOf s i v .answer ≡ 1) × (readOf s i .answer ≡ 1)
-  pub others : isAbsent (bankOf (s .registers)) ≡ false → readOf s (choose (eqb (bankOf (s .registers)) 4) 0x59 0x56) .answer ≡ 0
+  pub absent : isAbsent (bankOf (s .registers)) ≡ true → 0x50 ≤ i → i ≤ 0x5F
+      → (writeOf s i v .answer ≡ 1) × (readOf s i .answer ≡ 1)
+  pub others : isAbsent (bankOf (s .registers)) ≡ false
+      → readOf s (choose (eqb (bankOf (s .registers)) 4) 0x59 0x56) .answer ≡ 0
 
 -- ---- what stays: each latch and mark, by name
 pub record SameMarks (s t : State) : Type 0 where
@@ -151,7 +153,8 @@ pub record Leaves (s t : State) (c : ℕ) : Type 0 where
   pub cells : (k : ℕ) → cellIn t k ≡ choose (eqb k c && (eqb c interruptStatus1 || eqb c interruptStatus2)) 0 (cellIn s k)
   pub chassis : t .latches .chassis ≡ s .latches .chassis
   pub marks : SameMarks s t
-  pub asserted : (n : ℕ) → 2 ≤ n → n ≤ 3 → remoteIn t n .output .asserted ≡ choose (releases (s .registers) c n) false (remoteIn s n .output .asserted)
+  pub asserted : (n : ℕ) → 2 ≤ n → n ≤ 3
+      → remoteIn t n .output .asserted ≡ choose (releases (s .registers) c n) false (remoteIn s n .output .asserted)
 
 abbrev pub ReadLeaves : State → ℕ → Type 0
 ReadLeaves s i = readOf s i .answer ≡ 0 → Leaves s (readOf s i .state) (reachOf (s .registers) i)

@@ -1,5 +1,5 @@
--- Reads of two states that differ in bits without a rule: the bank is the same, so the same cell is reached; a byte is shown from
--- its own cell, the latch and 4Eh; and OVT is released by bit 1 of 52h, which a rule names. Assumes nothing.
+-- Reads of two states that differ in bits without a rule: the bank is the same, so the same cell is reached; a byte is shown
+-- from its own cell, the latch and 4Eh; and OVT is released by bit 1 of 52h, which a rule names. Assumes nothing.
 use mathlib.Core.Path.{_≡_, refl, ap, sym, _∙_}
 use mathlib.Core.Bool.{Bool, true, false, not, _&&_, _||_, true≢false}
 use mathlib.Core.List.{List, [], _∷_}

@@ -213,13 +213,14 @@ pub record Alike (s t : State) : Type 0 where
   pub bits : (c j : ℕ) → c < cells → j < 8 → isOn (ruleless c) j ≡ false → bit (cellIn s c) j ≡ bit (cellIn t c) j
   pub latches : s .latches ≡ t .latches
 
--- a read is answered alike, leaves them alike, releases OVT in both or in neither, and shows the same in every other bit
+-- a read is answered alike, leaves them alike, OVT released in both or in neither, and shows the same in every other bit
 pub record ReadAlike (s t : State) (i : ℕ) : Type 0 where
   pub answer : readOf s i .answer ≡ readOf t i .answer
   pub left : Alike (readOf s i .state) (readOf t i .state)
-  pub shown : (j : ℕ) → j < 8 → isOn (ruleless (reachOf (s .registers) i)) j ≡ false → bit (readOf s i .byte) j ≡ bit (readOf t i .byte) j
+  pub shown : (j : ℕ) → j < 8 → isOn (ruleless (reachOf (s .registers) i)) j ≡ false
+      → bit (readOf s i .byte) j ≡ bit (readOf t i .byte) j
 
--- a sample is answered alike, leaves them alike, and leaves those bits; SMI is the same before and after, and so are reads
+-- a sample is answered alike, leaves them alike, and leaves those bits; SMI is the same before and after; and so of reads
 pub record StoredOnly (s t : State) (x : Sample) : Type 0 where
   pub answer : sampleOf s x .answer ≡ sampleOf t x .answer
   pub left : Alike (after s x) (after t x)

@@ -1,5 +1,6 @@
 // The flags of an image: the chassis latch, sensor 1's mark, then status mark, OVT mark and asserted of sensors 2 and 3, and the
-// eight spare bytes behind them. A slice that is not an image of 128 bytes stays; a look at one takes a byte beyond it as 0.
+// eight spare bytes behind them. A slice that is not an image of 128 bytes stays; a look at one takes a byte beyond it as
+// 0.
 ghost use mathlib.Core.Path.{_≡_};
 ghost use Prim.Native.Nat.{_≤_, _+_, _*_};
 ghost use lib.ListN.{getD, set};

@@ -1,4 +1,5 @@
--- What is claimed of the readings, of every slice and every stored byte (document 01, "Answer numbers"; decisions D-01, D-24).
+-- What is claimed of the readings, of every slice and every stored byte (document 01, "Answer numbers"; decisions D-01,
+-- D-24).
 -- The definitions are those that the contracts cite (Readings.antt).
 use mathlib.Core.Path.{_≡_}
 use mathlib.Core.List.{List}
@@ -22,10 +23,12 @@ answerTo last n = choose (isBeyond last n) 7 0
 -- the whole answer, 8 before 7; refused: "reading 0"
 pub record ReadingClaims : Type 0 where
   pub voltage : (rs : List ℕ) (n r5 r6 : ℕ) → readingAnswer (voltageOf rs n r5 r6) ≡ sizedAnswer rs (answerFor n r5 r6)
-  pub no-voltage : (rs : List ℕ) (n r5 r6 : ℕ) → readingAnswer (voltageOf rs n r5 r6) ≢ 0 → readingValue (voltageOf rs n r5 r6) ≡ pos 0
+  pub no-voltage : (rs : List ℕ) (n r5 r6 : ℕ)
+      → readingAnswer (voltageOf rs n r5 r6) ≢ 0 → readingValue (voltageOf rs n r5 r6) ≡ pos 0
   pub speed : (rs : List ℕ) (f : ℕ) → speedAnswer (speedOf rs f) ≡ sizedAnswer rs (answerTo 3 f)
   pub no-speed : (rs : List ℕ) (f : ℕ) → speedAnswer (speedOf rs f) ≢ 0 → speedValue (speedOf rs f) ≡ 0
   pub temperature : (rs : List ℕ) (n : ℕ) → temperatureAnswer (temperatureOf rs n) ≡ sizedAnswer rs (answerTo 3 n)
-  pub no-temperature : (rs : List ℕ) (n : ℕ) → temperatureAnswer (temperatureOf rs n) ≢ 0 → temperatureValue (temperatureOf rs n) ≡ pos 0
+  pub no-temperature : (rs : List ℕ) (n : ℕ)
+      → temperatureAnswer (temperatureOf rs n) ≢ 0 → temperatureValue (temperatureOf rs n) ≡ pos 0
   pub duty : (rs : List ℕ) (n : ℕ) → dutyAnswer (dutyOf rs n) ≡ sizedAnswer rs (answerTo 4 n)
   pub no-duty : (rs : List ℕ) (n : ℕ) → dutyAnswer (dutyOf rs n) ≢ 0 → dutyValue (dutyOf rs n) ≡ 0

@@ -15,9 +15,15 @@ use Rattle.bits.specs.Bits.{choose}
 use Rattle.bits.proofs.BitLaws.{choose-ind}
 use Rattle.planner.specs.declared.Choice.{Choice}
 use Rattle.fan.specs.declared.Divisor.{Divisor}
+use Rattle.fan.specs.declared.Divisor.the-variants.{By2}
 use Rattle.fan.specs.Count.{exponentOf, valueOf, fromBits}
 use Rattle.planner.specs.Search.{productOf, choiceAt, better, bestTo}
 use Rattle.fan.proofs.Divisors.{exponent-from-bits, value-from-bits, value-pos}
+
+-- computed, for 2,641 rpm: K is 511, and d 2 gives 510, where the smallest d with 255 d at least K gives 508
+of-511 : bestTo 511 7 ≡ record { divisor = By2; counts = 255 }
+unfolding bestTo better fromBits
+of-511 = refl
 
 pub record Best (k e : ℕ) (c : Choice) : Type 0 where
   pub exponent-le : exponentOf (c .divisor) ≤ e

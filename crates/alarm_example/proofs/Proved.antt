@@ -13,19 +13,19 @@ use Rattle.bits.specs.Bits.{bit, flagOf, word, change, changes}
 use Rattle.bits.proofs.BitLaws.{choose-ind}
 use Rattle.bits.proofs.Every.{less-below}
 use Rattle.bits.proofs.ChangeLaws.{changes-length}
-use Rattle.fields.specs.Fields.{digitsOf, isIn, distinct, inside, apart}
-use Rattle.fields.specs.declared.Place.{Place}
+use Rattle.bits.specs.Fields.{digitsOf, isIn, distinct, inside, apart}
+use Rattle.bits.specs.declared.fields.Place.{Place}
 use Rattle.fan.specs.declared.Divisor.{Divisor}
-use Rattle.fan_settings.specs.Settings.{hasCell, isSound, isApart, plannedRegisters}
-use Rattle.fan_settings.proofs.Settings.{all-sound, all-apart, put, put-length, put-other}
-use Rattle.planner.specs.Search.{planOf}
-use Rattle.planner.specs.declared.Planned.{Planned}
-use Rattle.planner.specs.declared.Planned.the-variants.{Plan, Refused}
-use Rattle.planner.proofs.Planning.{plan-of-is}
-use Rattle.alarm.specs.Chip.{reset, writing, Whole}
-use Rattle.alarm.specs.Laws.{Keeps, Stores, Leaves, Answers, Takes, ChipLaws}
-use Rattle.alarm.proofs.Instances.{isOf, keeps-cells, within, isWide, all-wide, bus-write}
-use Rattle.alarm.proofs.Chips.{every-chip}
+use Rattle.in_force.specs.Settings.{hasCell, isSound, isApart, plannedRegisters}
+use Rattle.in_force.proofs.settings.Settings.{all-sound, all-apart, put, put-length, put-other}
+use Rattle.fan.specs.Search.{planOf}
+use Rattle.fan.specs.declared.planner.Planned.{Planned}
+use Rattle.fan.specs.declared.planner.Planned.the-variants.{Plan, Refused}
+use Rattle.fan.proofs.planner.Planning.{plan-of-is}
+use Rattle.in_force.specs.Chip.{reset, writing, Whole}
+use Rattle.in_force.specs.Laws.{Keeps, Stores, Leaves, Answers, Takes, ChipLaws}
+use Rattle.in_force.proofs.Instances.{isOf, keeps-cells, within, isWide, all-wide, bus-write}
+use Rattle.in_force.proofs.Chips.{every-chip}
 use Rattle.alarm_example.specs.Machine.{State, state, fanOf, maskAt, powerOn, Call, write, look, sample, setPlan, putBack, countOf, isReset, slow, back, registersAfter, answerTo, looksAfter, after, kindOf, machine, AlarmRings}
 
 -- ---- where the settings lie

@@ -1,4 +1,4 @@
--- A small machine of two fans, no chip's, that crate `alarm`'s claim is held against: the fans' divisors share a cell, one call is
+-- A small machine of two fans, no chip's, that crate `in_force`'s claim is held against: the fans' divisors share a cell, one call is
 -- none that a plan knows, and one rewrites several cells. Cell 0 has start in bit 0 and reset in bit 7, 1 and 2 the limits, 3 the
 -- divisors (fan 1 in bits 2-0, fan 2 in 6-4), 4 the real-time bits.
 use mathlib.Core.Bool.{Bool, _&&_}
@@ -9,14 +9,14 @@ use lib.ListN.{getD, set}
 use Rattle.bits.specs.Bits.{choose, bit, isOn, word, Change, change, changes, isBeyond}
 use Rattle.bits.specs.declared.Bit.{Bit}
 use Rattle.bits.specs.declared.Bit.the-variants.{B0, B1, B2, B4, B5, B6}
-use Rattle.fields.specs.Fields.{digitsOf}
-use Rattle.fields.specs.declared.Place.{Place}
+use Rattle.bits.specs.Fields.{digitsOf}
+use Rattle.bits.specs.declared.fields.Place.{Place}
 use Rattle.fan.specs.Count.{valueOf}
-use Rattle.planner.specs.Plan.{ringsAt, planAnswer}
-use Rattle.planner.specs.Search.{planOf}
-use Rattle.fan_settings.specs.Settings.{Fan, fanAt, limitIn, divisorIn, plannedRegisters}
-use Rattle.alarm.specs.Chip as chip
-use Rattle.alarm.specs.Chip.{Kind, reset, writing, planning, sampling, other, Chip}
+use Rattle.fan.specs.Plan.{ringsAt, planAnswer}
+use Rattle.fan.specs.Search.{planOf}
+use Rattle.in_force.specs.Settings.{Fan, fanAt, limitIn, divisorIn, plannedRegisters}
+use Rattle.in_force.specs.Chip as chip
+use Rattle.in_force.specs.Chip.{Kind, reset, writing, planning, sampling, other, Chip}
 
 pub record State : Type 0 where
   pub registers : List ℕ

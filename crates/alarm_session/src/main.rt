@@ -16,8 +16,8 @@
 //   reset            40h 80h: power-on values again, and fan 3 rings by d 2 and limit 0: u 1 is 0 by 2, u 2 is 1.
 use fan::Undivided;
 use libc::STDOUT_FILENO;
-use samples::Sample;
 use w83782d::Monitor;
+use w83782d_record::samples::Sample;
 
 fn text(line: &[u8]) {
     io::write_all(STDOUT_FILENO, line);

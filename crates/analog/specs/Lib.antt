@@ -1,2 +1,3 @@
 pub mod Temperature
 pub mod Pwm
+pub mod Readings

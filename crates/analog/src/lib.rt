@@ -6,6 +6,8 @@ ghost use Rattle.bits.specs.Bits.{choose};
 ghost use Rattle.analog.specs.Temperature.{half8, half9, signedOf, codeOf, holds, levelOf, nineBits, outside, halfCodeOf, halfAnswer, TwosComplement};
 ghost use Rattle.analog.specs.Pwm.{pwmParts};
 
+pub mod voltages;
+
 // Half the range of a byte, and of nine bits.
 const HALF_8: u16 = 128;
 

@@ -1,3 +1,5 @@
 pub mod Bits
 pub mod Map
 pub mod Claims
+pub mod Fields
+pub mod FieldClaims

@@ -6,9 +6,9 @@ use mathlib.Core.List.{List}
 use Prim.Native.Nat.{ℕ, _%_, _^_}
 use native.Mathlib.Nat.{mod-eq-of-lt}
 use lib.ListN.{length}
-use Rattle.fields.specs.Fields.{gatherOf, replaceOf, distinct, inside}
-use Rattle.fields.specs.declared.Place.{Place}
-use Rattle.fields.proofs.FieldLaws.{gather-gives-back, replace-keeps, other-stays}
+use Rattle.bits.specs.Fields.{gatherOf, replaceOf, distinct, inside}
+use Rattle.bits.specs.declared.fields.Place.{Place}
+use Rattle.bits.proofs.fields.FieldLaws.{gather-gives-back, replace-keeps, other-stays}
 use Rattle.fan.specs.declared.Divisor.{Divisor}
 use Rattle.fan.specs.Count.{exponentOf, fromBits}
 use Rattle.fan.specs.Divisors.{divisorAt, withDivisor, Fields}

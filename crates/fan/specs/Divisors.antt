@@ -5,8 +5,8 @@ use mathlib.Core.List.{List}
 use Prim.Native.Nat.{ℕ, _<_}
 use lib.ListN.{getD, length}
 use Rattle.bits.specs.Bits.{bit}
-use Rattle.fields.specs.Fields.{gatherOf, replaceOf, isIn, distinct, apart, inside}
-use Rattle.fields.specs.declared.Place.{Place}
+use Rattle.bits.specs.Fields.{gatherOf, replaceOf, isIn, distinct, apart, inside}
+use Rattle.bits.specs.declared.fields.Place.{Place}
 use Rattle.fan.specs.declared.Divisor.{Divisor}
 use Rattle.fan.specs.Count.{exponentOf, fromBits}
 

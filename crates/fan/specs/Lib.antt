@@ -1,3 +1,5 @@
 pub mod Count
 pub mod Divisors
 pub mod Speed
+pub mod Plan
+pub mod Search

@@ -2,12 +2,15 @@
 ghost use mathlib.Core.Path.{_≡_};
 ghost use Prim.Native.Nat.{_<_, _%_, _^_};
 ghost use Rattle.fan.specs.Count.{exponentOf, valueOf, fromBits, storedOf, overLimit};
-ghost use Rattle.fields.specs.Fields.{placesOf};
+ghost use Rattle.bits.specs.Fields.{placesOf};
 ghost use Rattle.fan.specs.Divisors.{divisorAt, withDivisor, Fields};
 ghost use Rattle.fan.specs.Speed.{speedOf};
-use fields::Field;
-use fields::gather;
-use fields::replace;
+
+pub mod planner;
+
+use bits::fields::Field;
+use bits::fields::gather;
+use bits::fields::replace;
 use rounding::rounded;
 
 // What a fan at one turn a minute counts.

@@ -2,15 +2,15 @@
 -- Assumes nothing.
 use mathlib.Core.Path.{_≡_, refl, ap, _∙_}
 use lib.ListN.{length}
-use Rattle.samples.specs.declared.Sample.{Sample}
-use Rattle.event.specs.declared.Kind.{Kind}
-use Rattle.event.specs.declared.Kind.the-variants as kind
-use Rattle.alarm.specs.Carried.{Carries}
-use Rattle.alarm.proofs.Carriers.{every-carrier}
+use Rattle.w83782d_record.specs.declared.samples.Sample.{Sample}
+use Rattle.w83782d_record.specs.declared.event.Kind.{Kind}
+use Rattle.w83782d_record.specs.declared.event.Kind.the-variants as kind
+use Rattle.in_force.specs.Carried.{Carries}
+use Rattle.in_force.proofs.Carriers.{every-carrier}
 use Rattle.w83782d_bus.specs.Bus.{State, Written, written}
-use Rattle.w83782d_alarm.specs.Alarm.{Call, write, read, sample, chassis, setPlan, answerTo, monitor}
-use Rattle.w83782d_alarm.specs.Events.{callFor}
-use Rattle.w83782d_alarm.proofs.Alarm.{fit, alarm-rings}
+use Rattle.w83782d_claims.specs.Alarm.{Call, write, read, sample, chassis, setPlan, answerTo, monitor}
+use Rattle.w83782d_replay.specs.Events.{callFor}
+use Rattle.w83782d_claims.proofs.alarm.Alarm.{fit, alarm-rings}
 use Rattle.w83782d.specs.declared.Monitor.{Monitor}
 use Rattle.w83782d.specs.Monitor.{stateOf, applyOf}
 use Rattle.w83782d.specs.Alarm.{answerOf, byValue, MonitorCalls}

@@ -9,20 +9,20 @@ use borrow.Author.Tests.{eq-eqb}
 use lib.ListN.{length}
 use Rattle.w83782d_map.specs.Map.{cells}
 use Rattle.w83782d_bus.specs.Bus as Bus
-use Rattle.w83782d_registers.proofs.Cases.{both}
-use Rattle.w83782d_latches.specs.Effects.{powerOnLatches, remoteOf}
+use Rattle.w83782d_bus.proofs.registers.Cases.{both}
+use Rattle.w83782d_bus.specs.Effects.{powerOnLatches, remoteOf}
 use Rattle.w83782d_bus.specs.Bus.{state, powerOn, written, Written, sized, sizedRead, wroteIn, seenIn}
-use Rattle.w83782d_latches.specs.declared.Latches.{Latches}
+use Rattle.w83782d_bus.specs.declared.latches.Latches.{Latches}
 use Rattle.w83782d_bus.specs.declared.Wrote.{Wrote}
 use Rattle.w83782d_bus.specs.declared.Seen.{Seen}
-use Rattle.w83782d_outputs.specs.Outputs.{smiOf, standingAlarms, outputsOf}
-use Rattle.w83782d_outputs.specs.declared.Outputs.{Outputs}
-use Rattle.w83782d_outputs.specs.declared.Outputs.the-variants as outputs
-use Rattle.event.specs.declared.Event.{Event}
-use Rattle.samples.specs.declared.Sample.{Sample}
+use Rattle.w83782d_readings.specs.Outputs.{smiOf, standingAlarms, outputsOf}
+use Rattle.w83782d_readings.specs.declared.outputs.Outputs.{Outputs}
+use Rattle.w83782d_readings.specs.declared.outputs.Outputs.the-variants as outputs
+use Rattle.w83782d_record.specs.declared.event.Event.{Event}
+use Rattle.w83782d_record.specs.declared.samples.Sample.{Sample}
 use Rattle.w83782d_replay.specs.Replay as Replay
 use Rattle.w83782d_sample.specs.Sample as Rule
-use Rattle.w83782d_settings.specs.Plan as Plan
+use Rattle.w83782d_plan.specs.Plan as Plan
 use Rattle.w83782d.specs.declared.Monitor.{Monitor}
 use Rattle.w83782d.specs.Monitor.{stateOf, monitorOf, answered, shown, powerOnOf, writeOf, readOf, sampleOf, setPlanOf, applyOf}
 

@@ -1,15 +1,15 @@
--- Demand 3 by value. The claim itself, `AlarmRings`, is in w83782d_alarm and about registers and latches; here is that the methods'
+-- Demand 3 by value. The claim itself, `AlarmRings`, is in w83782d_claims and about registers and latches; here is that the methods'
 -- definitions are its calls, so that it is about them and every list of them.
 use mathlib.Core.Path.{_≡_}
 use Prim.Native.Nat.{ℕ}
 use lib.ListN.{length}
-use Rattle.event.specs.declared.Event.{Event}
-use Rattle.alarm.specs.Carried.{Carrier, RingsIn}
+use Rattle.w83782d_record.specs.declared.event.Event.{Event}
+use Rattle.in_force.specs.Carried.{Carrier, RingsIn}
 use Rattle.w83782d_map.specs.Map.{cells}
 use Rattle.w83782d_bus.specs.Bus as Bus
 use Rattle.w83782d_bus.specs.Bus.{State, written}
-use Rattle.w83782d_alarm.specs.Alarm.{Call, write, read, sample, chassis, setPlan, answerTo, monitor}
-use Rattle.w83782d_alarm.specs.Events.{callFor}
+use Rattle.w83782d_claims.specs.Alarm.{Call, write, read, sample, chassis, setPlan, answerTo, monitor}
+use Rattle.w83782d_replay.specs.Events.{callFor}
 use Rattle.w83782d.specs.declared.Monitor.{Monitor}
 use Rattle.w83782d.specs.declared.Answered.{Answered}
 use Rattle.w83782d.specs.Monitor.{stateOf, writeOf, readOf, sampleOf, openedOf, setPlanOf, applyOf}

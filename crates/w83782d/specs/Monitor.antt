@@ -1,12 +1,12 @@
 -- The monitor by value: the definitions of the crates below, on its registers and latches.
 use Prim.Native.Nat.{ℕ}
-use Rattle.event.specs.declared.Event.{Event}
-use Rattle.samples.specs.declared.Sample.{Sample}
+use Rattle.w83782d_record.specs.declared.event.Event.{Event}
+use Rattle.w83782d_record.specs.declared.samples.Sample.{Sample}
 use Rattle.w83782d_sample.specs.Sample as Rule
 use Rattle.w83782d_replay.specs.Replay as Replay
-use Rattle.w83782d_settings.specs.Plan as Plan
+use Rattle.w83782d_plan.specs.Plan as Plan
 use Rattle.w83782d_bus.specs.Bus as Bus
-use Rattle.w83782d_latches.specs.Effects.{openedLatches}
+use Rattle.w83782d_bus.specs.Effects.{openedLatches}
 use Rattle.w83782d_bus.specs.Bus.{State, Written, Read, powerOn}
 use Rattle.w83782d.specs.declared.Monitor.{Monitor}
 use Rattle.w83782d.specs.declared.Answered.{Answered}

@@ -1,30 +1,30 @@
 // The hardware monitor W83782D by value: each event takes the monitor and hands it back with the answer.
 // The work is done in place by the crates below; these methods are its thin face.
 ghost use mathlib.Core.Path.{_≡_};
-ghost use Rattle.w83782d_bus_laws.specs.Claims.{WriteClaims, ReadClaims, OpenedClaims};
-ghost use Rattle.w83782d_sample_laws.specs.Claims.{SampleClaims};
-ghost use Rattle.w83782d_settings.specs.Claims.{PlanClaims};
-ghost use Rattle.w83782d_alarm.specs.Alarm.{AlarmRings, SetsAlarm, SampleRings};
-ghost use Rattle.w83782d_alarm.specs.Events.{EventCalls};
-ghost use Rattle.w83782d_latches.specs.Ovt.{ovtOf};
-ghost use Rattle.w83782d_outputs.specs.Outputs.{smiOf, standingAlarms};
+ghost use Rattle.w83782d_claims.specs.BusClaims.{WriteClaims, ReadClaims, OpenedClaims};
+ghost use Rattle.w83782d_claims.specs.SampleClaims.{SampleClaims};
+ghost use Rattle.w83782d_plan.specs.Claims.{PlanClaims};
+ghost use Rattle.w83782d_claims.specs.Alarm.{AlarmRings, SetsAlarm, SampleRings};
+ghost use Rattle.w83782d_replay.specs.Events.{EventCalls};
+ghost use Rattle.w83782d_bus.specs.Ovt.{ovtOf};
+ghost use Rattle.w83782d_readings.specs.Outputs.{smiOf, standingAlarms};
 ghost use Rattle.w83782d_readings.specs.Readings.{voltageOf, speedOf, temperatureOf, dutyOf};
 ghost use Rattle.w83782d.specs.Monitor.{stateOf, powerOnOf, writeOf, readOf, sampleOf, openedOf, setPlanOf, applyOf};
 ghost use Rattle.w83782d.specs.Alarm.{MonitorCalls};
-use event::Event;
+use analog::voltages::Reading;
 use fan::Speed;
-use samples::Sample;
-use voltages::Reading;
+use w83782d_bus::latches::Latches;
+use w83782d_bus::latches::Ovt;
 use w83782d_bus::power_on_in;
 use w83782d_bus::read_in;
 use w83782d_bus::write_in;
-use w83782d_latches::Latches;
-use w83782d_latches::Ovt;
-use w83782d_outputs::Outputs;
-use w83782d_outputs::outputs_of;
 use w83782d_plan::set_plan_in;
 use w83782d_readings::Duty;
 use w83782d_readings::Temperature;
+use w83782d_readings::outputs::Outputs;
+use w83782d_readings::outputs::outputs_of;
+use w83782d_record::event::Event;
+use w83782d_record::samples::Sample;
 use w83782d_replay::take_in;
 use w83782d_sample::sample_in;
 

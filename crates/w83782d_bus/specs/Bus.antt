@@ -7,9 +7,9 @@ use lib.ListN.{set}
 use Rattle.bits.specs.Bits.{choose, isOn, change, changes}
 use Rattle.w83782d_map.specs.Map.{presentAt, configuration, interruptStatus1, interruptStatus2, fits}
 use Rattle.w83782d_map.specs.Access.{writeAnswer, storedBits}
-use Rattle.w83782d_registers.specs.Registers.{reachOf, powerOnRegisters, resetRegisters, shownOf}
-use Rattle.w83782d_latches.specs.declared.Latches.{Latches}
-use Rattle.w83782d_latches.specs.Effects.{powerOnLatches, writtenLatches, readLatches}
+use Rattle.w83782d_bus.specs.Registers.{reachOf, powerOnRegisters, resetRegisters, shownOf}
+use Rattle.w83782d_bus.specs.declared.latches.Latches.{Latches}
+use Rattle.w83782d_bus.specs.Effects.{powerOnLatches, writtenLatches, readLatches}
 use Rattle.w83782d_bus.specs.declared.Wrote.{Wrote}
 use Rattle.w83782d_bus.specs.declared.Seen.{Seen}
 

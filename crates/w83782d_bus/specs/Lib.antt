@@ -1,1 +1,5 @@
+pub mod Registers
+pub mod Parts
+pub mod Effects
+pub mod Ovt
 pub mod Bus

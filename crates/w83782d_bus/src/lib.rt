@@ -3,13 +3,21 @@
 ghost use mathlib.Core.Path.{_≡_};
 ghost use lib.ListN.{length};
 ghost use Rattle.w83782d_map.specs.Map.{cells};
-ghost use Rattle.w83782d_latches.specs.Effects.{powerOnLatches};
+ghost use Rattle.w83782d_bus.specs.Effects.{powerOnLatches};
 ghost use Rattle.w83782d_bus.specs.Bus.{state, powerOn, writtenIn, writeOf, written, readIn, readOf, sized, sizedRead, wroteIn, seenIn};
+
+pub mod latches;
+pub mod registers;
+
+use crate::latches::Latches;
+use crate::latches::read_latches;
+use crate::latches::write_latches;
+use crate::registers::is_command;
+use crate::registers::reach;
+use crate::registers::restore;
+use crate::registers::shown;
 use bits::put;
 use bits::store;
-use w83782d_latches::Latches;
-use w83782d_latches::read_latches;
-use w83782d_latches::write_latches;
 use w83782d_map::CELLS;
 use w83782d_map::CONFIGURATION;
 use w83782d_map::INTERRUPT_STATUS_1;
@@ -17,10 +25,6 @@ use w83782d_map::INTERRUPT_STATUS_2;
 use w83782d_map::answer_to_write;
 use w83782d_map::is_present;
 use w83782d_map::stored_bits;
-use w83782d_registers::is_command;
-use w83782d_registers::reach;
-use w83782d_registers::restore;
-use w83782d_registers::shown;
 
 // What a write answers, with the latches after it.
 pub struct Wrote {

@@ -1,2 +1,5 @@
+pub mod Accesses
+pub mod Parts
+pub mod Calls
 pub mod Values
 pub mod Alarm

@@ -5,18 +5,18 @@ use mathlib.Core.List.{List}
 use Prim.Native.Nat.{ℕ, _<_, _≤_}
 use borrow.Author.Tests.{eq-eqb, ne-eqb, lt-ltb, le-ltb}
 use lib.ListN.{length}
-use Rattle.fields.specs.Fields.{placesOf}
-use Rattle.fields.specs.declared.Field.{Field}
-use Rattle.fan_settings.specs.Settings.{fanAt, plannedRegisters}
-use Rattle.planner.specs.Plan.{planAnswer}
-use Rattle.planner.specs.Search.{planOf}
-use Rattle.planner.specs.declared.Planned.{Planned}
-use Rattle.w83782d_latches.specs.declared.Latches.{Latches}
+use Rattle.bits.specs.Fields.{placesOf}
+use Rattle.bits.specs.declared.fields.Field.{Field}
+use Rattle.in_force.specs.Settings.{fanAt, plannedRegisters}
+use Rattle.fan.specs.Plan.{planAnswer}
+use Rattle.fan.specs.Search.{planOf}
+use Rattle.fan.specs.declared.planner.Planned.{Planned}
+use Rattle.w83782d_bus.specs.declared.latches.Latches.{Latches}
 use Rattle.w83782d_map.specs.Map.{cells}
 use Rattle.w83782d_bus.specs.Bus.{state, written, sized}
-use Rattle.w83782d_store.specs.Stored.{divisorPlaces}
-use Rattle.w83782d_conditions.specs.Conditions.{fanLimit}
-use Rattle.w83782d_settings.specs.Plan.{setPlanOf}
+use Rattle.w83782d_sample.specs.Stored.{divisorPlaces}
+use Rattle.w83782d_sample.specs.Conditions.{fanLimit}
+use Rattle.w83782d_plan.specs.Plan.{setPlanOf}
 
 module _ (rs : List ℕ) (l : Latches) (f w : ℕ) where
   pub short : (length rs ≡ cells → ⊥) → written (state rs l) 8 ≡ sized rs l (setPlanOf (state rs l) f w)

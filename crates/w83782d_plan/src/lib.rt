@@ -1,13 +1,13 @@
 // Setting a plan, in place on the registers' slice with the latches by value.
 ghost use mathlib.Core.Path.{_≡_};
 ghost use Rattle.w83782d_bus.specs.Bus.{state, sized, wroteIn};
-ghost use Rattle.w83782d_settings.specs.Plan.{setPlanOf};
-use fan_plan::put_plan;
-use planner::plan;
+ghost use Rattle.w83782d_plan.specs.Plan.{setPlanOf};
+use fan::planner::plan;
+use in_force::plan_bits::put_plan;
 use w83782d_bus::Wrote;
-use w83782d_latches::Latches;
+use w83782d_bus::latches::Latches;
 use w83782d_map::CELLS;
-use w83782d_store::divisor_field;
+use w83782d_sample::store::divisor_field;
 
 // ---- Answer numbers
 

@@ -17,12 +17,12 @@ use Rattle.fan.specs.Count.{perMinute, valueOf}
 use Rattle.fan.specs.Speed as fan
 use Rattle.fan.specs.declared.Speed.{Speed}
 use Rattle.fan.specs.declared.Speed.the-variants as speed
-use Rattle.voltages.specs.declared.Reading.{Reading}
-use Rattle.voltages.specs.declared.Reading.the-variants as reading
-use Rattle.voltages.specs.Readings.{readingAnswer, readingValue, answerFor}
-use Rattle.voltages.proofs.Voltages.{answers-hold}
+use Rattle.analog.specs.declared.voltages.Reading.{Reading}
+use Rattle.analog.specs.declared.voltages.Reading.the-variants as reading
+use Rattle.analog.specs.Readings.{readingAnswer, readingValue, answerFor}
+use Rattle.analog.proofs.voltages.Voltages.{answers-hold}
 use Rattle.w83782d_map.specs.Map.{fits}
-use Rattle.w83782d_store.specs.Stored.{voltage, fanCount, divisorOf}
+use Rattle.w83782d_sample.specs.Stored.{voltage, fanCount, divisorOf}
 use Rattle.w83782d_readings.specs.declared.Temperature.{Temperature}
 use Rattle.w83782d_readings.specs.declared.Temperature.the-variants as temperature
 use Rattle.w83782d_readings.specs.declared.Duty.{Duty}

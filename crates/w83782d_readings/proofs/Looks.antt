@@ -6,8 +6,8 @@ use Prim.Native.Nat.{ℕ, _-_, _<_, _≤_}
 use borrow.Author.Tests.{eq-eqb, ne-eqb, lt-ltb, le-ltb}
 use lib.IntN.{ℤ}
 use lib.ListN.{length, getD}
-use Rattle.fields.specs.Fields.{placesOf}
-use Rattle.fields.specs.declared.Field.{Field}
+use Rattle.bits.specs.Fields.{placesOf}
+use Rattle.bits.specs.declared.fields.Field.{Field}
 use Rattle.bits.proofs.Match.{NoKey}
 use Rattle.fan.specs.Count.{valueOf}
 use Rattle.fan.specs.Divisors.{divisorAt}
@@ -15,13 +15,13 @@ use Rattle.fan.specs.Speed as fan
 use Rattle.fan.specs.declared.Divisor.{Divisor}
 use Rattle.fan.specs.declared.Speed.{Speed}
 use Rattle.fan.specs.declared.Speed.the-variants as speed
-use Rattle.voltages.specs.Readings.{millivoltsOf, Answers}
+use Rattle.analog.specs.Readings.{millivoltsOf, Answers}
 use Rattle.analog.specs.Temperature.{TwosComplement}
 use Rattle.analog.specs.Pwm.{pwmParts}
-use Rattle.voltages.specs.declared.Reading.{Reading}
-use Rattle.voltages.specs.declared.Reading.the-variants as reading
+use Rattle.analog.specs.declared.voltages.Reading.{Reading}
+use Rattle.analog.specs.declared.voltages.Reading.the-variants as reading
 use Rattle.w83782d_map.specs.Map.{cells}
-use Rattle.w83782d_store.specs.Stored.{voltage, fanCount, divisorPlaces}
+use Rattle.w83782d_sample.specs.Stored.{voltage, fanCount, divisorPlaces}
 use Rattle.w83782d_readings.specs.declared.Temperature.the-variants as temperature
 use Rattle.w83782d_readings.specs.declared.Duty.the-variants as duty
 use Rattle.w83782d_readings.specs.Readings.{voltageOf, speedAt, speedOf, halfDegrees, temperatureAt, temperatureOf, dutyAt, dutyOf}

@@ -8,7 +8,7 @@ use Prim.Native.Nat.{ℕ}
 use lib.IntN.{pos}
 use Rattle.bits.specs.Bits.{choose, isBeyond}
 use Rattle.fan.specs.Speed.{speedAnswer, speedValue}
-use Rattle.voltages.specs.Readings.{readingAnswer, readingValue, answerFor}
+use Rattle.analog.specs.Readings.{readingAnswer, readingValue, answerFor}
 use Rattle.w83782d_map.specs.Map.{fits}
 use Rattle.w83782d_readings.specs.Readings.{temperatureAnswer, temperatureValue, dutyAnswer, dutyValue, voltageOf, speedOf, temperatureOf, dutyOf}
 

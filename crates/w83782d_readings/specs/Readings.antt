@@ -9,13 +9,13 @@ use Rattle.fan.specs.Count.{valueOf}
 use Rattle.fan.specs.Speed as fan
 use Rattle.fan.specs.declared.Speed.{Speed}
 use Rattle.fan.specs.declared.Speed.the-variants as speed
-use Rattle.voltages.specs.Readings.{millivoltsOf}
+use Rattle.analog.specs.Readings.{millivoltsOf}
 use Rattle.analog.specs.Temperature.{half9, signedOf, nineBits}
 use Rattle.analog.specs.Pwm.{pwmParts}
-use Rattle.voltages.specs.declared.Reading.{Reading}
-use Rattle.voltages.specs.declared.Reading.the-variants as reading
+use Rattle.analog.specs.declared.voltages.Reading.{Reading}
+use Rattle.analog.specs.declared.voltages.Reading.the-variants as reading
 use Rattle.w83782d_map.specs.Map.{at, fits, bankCell}
-use Rattle.w83782d_store.specs.Stored.{voltage, sensor1Value, fanCount, divisorOf}
+use Rattle.w83782d_sample.specs.Stored.{voltage, sensor1Value, fanCount, divisorOf}
 use Rattle.w83782d_readings.specs.declared.Temperature.{Temperature}
 use Rattle.w83782d_readings.specs.declared.Temperature.the-variants as temperature
 use Rattle.w83782d_readings.specs.declared.Duty.{Duty}

@@ -3,14 +3,17 @@
 ghost use mathlib.Core.Path.{_≡_};
 ghost use Rattle.w83782d_readings.specs.Readings.{voltageOf, speedOf, temperatureOf, dutyOf};
 ghost use Rattle.w83782d_readings.specs.Claims.{ReadingClaims};
+
+pub mod outputs;
+
 use analog::half_degrees;
 use analog::pwm_parts;
+use analog::voltages::Reading;
+use analog::voltages::millivolts;
 use bits::cell;
 use fan::Divided;
 use fan::Divisor;
 use fan::Speed;
-use voltages::Reading;
-use voltages::millivolts;
 use w83782d_map::BANK_1;
 use w83782d_map::BANK_2;
 use w83782d_map::CELLS;
@@ -18,7 +21,7 @@ use w83782d_map::PWM_DUTY_1;
 use w83782d_map::PWM_DUTY_2;
 use w83782d_map::PWM_DUTY_3;
 use w83782d_map::PWM_DUTY_4;
-use w83782d_store::divisor_field;
+use w83782d_sample::store::divisor_field;
 
 const VCOREA: usize = 0x20 - 0x20;
 

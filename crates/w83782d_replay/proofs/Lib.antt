@@ -1,2 +1,3 @@
 pub mod Logs
 pub mod Runs
+pub mod Events

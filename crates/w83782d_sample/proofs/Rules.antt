@@ -17,23 +17,23 @@ use Rattle.sensor.specs.declared.Mode.{Mode}
 use Rattle.sensor.specs.declared.Status.{Status}
 use Rattle.sensor.specs.declared.Output.{Output}
 use Rattle.sensor.specs.declared.Remote.{Remote}
-use Rattle.samples.specs.declared.Sample.{Sample}
-use Rattle.w83782d_latches.specs.declared.Latches.{Latches}
-use Rattle.w83782d_latches.specs.Effects.{remoteOf}
+use Rattle.w83782d_record.specs.declared.samples.Sample.{Sample}
+use Rattle.w83782d_bus.specs.declared.latches.Latches.{Latches}
+use Rattle.w83782d_bus.specs.Effects.{remoteOf}
 use Rattle.w83782d_map.specs.Map.{cells, interruptStatus1, interruptStatus2, realTimeStatus2}
 use Rattle.w83782d_bus.specs.Bus.{state, written, sized}
-use Rattle.w83782d_store.specs.Stored.{storedReadings, sampleAnswer}
-use Rattle.w83782d_store.specs.Parts.{storedIn}
-use Rattle.w83782d_store.proofs.Rules.{stored-in}
+use Rattle.w83782d_sample.specs.Stored.{storedReadings, sampleAnswer}
+use Rattle.w83782d_sample.specs.StoredParts.{storedIn}
+use Rattle.w83782d_sample.proofs.store.Rules.{stored-in}
 use Rattle.w83782d_sample.specs.declared.Step.{Step}
 use Rattle.w83782d_sample.specs.declared.Judged.{Judged}
-use Rattle.w83782d_conditions.specs.declared.Stand.{Stand}
-use Rattle.w83782d_conditions.specs.declared.Compared.{Compared}
-use Rattle.w83782d_conditions.specs.Conditions.{isOutside, isAbove, isSlow, outputMode, standOf, comparedOf}
-use Rattle.w83782d_conditions.specs.Parts.{comparedIn}
-use Rattle.w83782d_conditions.proofs.Rules.{not-one}
+use Rattle.w83782d_sample.specs.declared.conditions.Stand.{Stand}
+use Rattle.w83782d_sample.specs.declared.conditions.Compared.{Compared}
+use Rattle.w83782d_sample.specs.Conditions.{isOutside, isAbove, isSlow, outputMode, standOf, comparedOf}
+use Rattle.w83782d_sample.specs.ConditionParts.{comparedIn}
+use Rattle.w83782d_sample.proofs.conditions.Rules.{not-one}
 use Rattle.w83782d_sample.specs.Sample.{realTimeStatus1, statusAt, outputAt, remoteAfter, judgedRegisters, steppedLatches, sampleOf}
-use Rattle.w83782d_sample.specs.Parts.{remoteStep, Judges}
+use Rattle.w83782d_sample.specs.SampleParts.{remoteStep, Judges}
 
 -- ---- the steps
 pub remote-stepped : (s : Stand) (o : Mode) (r : Remote) (st : Status) (out : Output) → st ≡ statusOf (s .mode) (r .status) (s .above) (s .below) → out ≡ outputOf o (r .output) (s .above) (s .below)

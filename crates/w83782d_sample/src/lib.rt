@@ -8,24 +8,28 @@ ghost use Rattle.bits.specs.Bits.{word};
 ghost use Rattle.w83782d_map.specs.Map.{cells};
 ghost use Rattle.w83782d_bus.specs.Bus.{state, sized, wroteIn};
 ghost use Rattle.w83782d_sample.specs.Sample.{judgedRegisters, steppedLatches, sampleOf};
-ghost use Rattle.w83782d_sample.specs.Parts.{remoteStep, Judges};
+ghost use Rattle.w83782d_sample.specs.SampleParts.{remoteStep, Judges};
+
+pub mod conditions;
+pub mod store;
+
+use crate::conditions::Stand;
+use crate::conditions::compare;
+use crate::store::answer_to;
+use crate::store::store;
 use bits::pack;
-use samples::Sample;
 use sensor::Mode;
 use sensor::Remote;
 use sensor::output_step;
 use sensor::status_step;
 use w83782d_bus::Wrote;
-use w83782d_conditions::Stand;
-use w83782d_conditions::compare;
-use w83782d_latches::Latches;
+use w83782d_bus::latches::Latches;
 use w83782d_map::CELLS;
 use w83782d_map::INTERRUPT_STATUS_1;
 use w83782d_map::INTERRUPT_STATUS_2;
 use w83782d_map::REAL_TIME_STATUS_1;
 use w83782d_map::REAL_TIME_STATUS_2;
-use w83782d_store::answer_to;
-use w83782d_store::store;
+use w83782d_record::samples::Sample;
 
 // ---- Answer numbers
 

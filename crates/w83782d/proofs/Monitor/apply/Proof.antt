@@ -1,5 +1,5 @@
 use borrow.Author.Needs.{needs}
-use Rattle.w83782d_alarm.proofs.Events.{event-calls}
+use Rattle.w83782d_replay.proofs.Events.{event-calls}
 use Rattle.w83782d.proofs.Faces.{apply-face}
 use Rattle.w83782d.proofs.Monitor.apply.Statement.{statement}
 use Rattle.w83782d.proofs.Monitor.apply.Tie as tie

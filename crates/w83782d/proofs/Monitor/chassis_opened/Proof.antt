@@ -1,7 +1,7 @@
 use borrow.Author.Needs.{needs}
 use mathlib.Core.Path.{refl}
 use Rattle.w83782d.specs.Monitor.{stateOf}
-use Rattle.w83782d_bus_laws.proofs.Frames.{opened}
+use Rattle.w83782d_claims.proofs.bus.Frames.{opened}
 use Rattle.w83782d.proofs.Monitor.chassis_opened.Statement.{statement}
 use Rattle.w83782d.proofs.Monitor.chassis_opened.Tie as tie
 

@@ -5,7 +5,7 @@ use mir.Syntax.{w8}
 use lib.ListN.{getD}
 use Rattle.w83782d.specs.Monitor.{stateOf}
 use Rattle.w83782d.proofs.Faces.{read-face}
-use Rattle.w83782d_bus_laws.proofs.Proved.{read-claims}
+use Rattle.w83782d_claims.proofs.bus.Proved.{read-claims}
 use Rattle.w83782d.proofs.Monitor.read.Statement.{statement}
 use Rattle.w83782d.proofs.Monitor.read.Tie as tie
 

@@ -4,8 +4,8 @@ use mir.Val.{Fits, SFits}
 use mir.Syntax.{w8}
 use lib.ListN.{getD}
 use Rattle.w83782d.specs.Monitor.{stateOf}
-use Rattle.w83782d_sample_laws.proofs.Proved.{sample-claims}
-use Rattle.w83782d_alarm.proofs.Alarm.{sample-rings}
+use Rattle.w83782d_claims.proofs.sample.Proved.{sample-claims}
+use Rattle.w83782d_claims.proofs.alarm.Alarm.{sample-rings}
 use Rattle.w83782d.proofs.Faces.{sample-face}
 use Rattle.w83782d.proofs.Monitor.sample.Statement.{statement}
 use Rattle.w83782d.proofs.Monitor.sample.Tie as tie

@@ -1,7 +1,7 @@
 use borrow.Author.Needs.{needs}
 use Rattle.w83782d.specs.Monitor.{stateOf}
-use Rattle.w83782d_settings.proofs.Proved.{plan-claims}
-use Rattle.w83782d_alarm.proofs.Alarm.{alarm-rings, sets-alarm}
+use Rattle.w83782d_plan.proofs.settings.Proved.{plan-claims}
+use Rattle.w83782d_claims.proofs.alarm.Alarm.{alarm-rings, sets-alarm}
 use Rattle.w83782d.proofs.Calls.{monitor-calls}
 use Rattle.w83782d.proofs.Faces.{plan-face}
 use Rattle.w83782d.proofs.Monitor.set_plan.Statement.{statement}

@@ -5,7 +5,7 @@ use mir.Syntax.{w8}
 use lib.ListN.{getD}
 use Rattle.w83782d.specs.Monitor.{stateOf}
 use Rattle.w83782d.proofs.Faces.{write-face}
-use Rattle.w83782d_bus_laws.proofs.Proved.{write-claims}
+use Rattle.w83782d_claims.proofs.bus.Proved.{write-claims}
 use Rattle.w83782d.proofs.Monitor.write.Statement.{statement}
 use Rattle.w83782d.proofs.Monitor.write.Tie as tie
 

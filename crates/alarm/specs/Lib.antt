@@ -1,4 +1,0 @@
-pub mod InForce
-pub mod Chip
-pub mod Laws
-pub mod Carried

@@ -1,1 +1,0 @@
-// The marked figures of document 01: one table, one proved statement. Definitions and laws alone.

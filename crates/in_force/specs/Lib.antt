@@ -1,0 +1,6 @@
+pub mod Settings
+pub mod SettingsClaims
+pub mod InForce
+pub mod Chip
+pub mod Laws
+pub mod Carried

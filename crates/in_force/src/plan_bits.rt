@@ -1,0 +1,35 @@
+// A plan put in the registers, in place on their slice, wherever its fan's settings lie.
+ghost use mathlib.Core.Path.{_≡_};
+ghost use Rattle.bits.specs.Fields.{placesOf};
+ghost use Rattle.fan.specs.Plan.{planAnswer};
+ghost use Rattle.in_force.specs.Settings.{fanAt, plannedRegisters};
+use bits::fields::Field;
+use bits::store;
+use fan::planner::Planned;
+
+// ---- Answer numbers
+
+const ACCEPTED: u8 = 0;
+
+const BAD_SPEED: u8 = 6;
+
+// A limit is written whole.
+const WHOLE: u8 = 0xff;
+
+// The plan's limit and divisor bits put, every other bit of every cell kept; no plan leaves all.
+pub fn put_plan(s: &mut [u8], limit: usize, field: Field, planned: Planned) -> u8
+    ensures registers { λ r. ⌜ now (s .exit) ≡ plannedRegisters (now (s .entry)) (fanAt limit (placesOf field)) planned ⌝ }
+    ensures answer { λ r. ⌜ r ≡ planAnswer planned ⌝ }
+{
+    match planned {
+        Planned::Plan {
+            divisor,
+            limit: count,
+        } => {
+            store(s, limit, WHOLE, count);
+            divisor.put(s, field);
+            ACCEPTED
+        }
+        Planned::Refused => BAD_SPEED,
+    }
+}

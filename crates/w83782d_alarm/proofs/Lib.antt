@@ -1,5 +1,0 @@
-pub mod CallKinds
-pub mod Stores
-pub mod Ringing
-pub mod Alarm
-pub mod Events

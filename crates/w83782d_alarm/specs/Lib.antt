@@ -1,2 +1,0 @@
-pub mod Alarm
-pub mod Events

@@ -1,0 +1,4 @@
+pub mod bus
+pub mod sample
+pub mod alarm
+pub mod figures

@@ -1,0 +1,4 @@
+pub mod CallKinds
+pub mod Stores
+pub mod Ringing
+pub mod Alarm

@@ -1,0 +1,4 @@
+pub mod BusClaims
+pub mod SampleClaims
+pub mod Alarm
+pub mod Figures

@@ -1,0 +1,245 @@
+-- What is claimed of a sample, from every state of the monitor and for every sample, refused or not (document 01, "What a sample does").
+-- The definitions are those that the contracts cite (w83782d_sample: Conditions.antt, Sample.antt; w83782d_readings: Outputs.antt).
+use mathlib.Core.Path.{_≡_}
+use mathlib.Core.Bool.{Bool, true, false, not, _&&_, _||_}
+use mathlib.Core.List.{List, [], _∷_, map}
+use mathlib.Core.Logic.{_≢_, _↔_}
+use Prim.Native.Nat.{ℕ, _+_, _<_, _≤_, max}
+use lib.Bits.{bitAnd}
+use lib.Dec.{eqb, ltb}
+use lib.IntN.{ℤ}
+use lib.ListN.{length, getD}
+use lib.Signed.{ltZ}
+use Rattle.bits.specs.Bits.{bit, isOn, choose, flagOf}
+use Rattle.bits.specs.Map.{any, bank, Span, span, among}
+use Rattle.analog.specs.Temperature.{half8, half9, signedOf, nineBits, outside}
+use Rattle.sensor.specs.Sensor.{statusOf, outputOf}
+use Rattle.sensor.specs.declared.Status.{Status}
+use Rattle.sensor.specs.declared.Output.{Output}
+use Rattle.w83782d_record.specs.declared.samples.Sample.{Sample}
+use Rattle.w83782d_map.specs.Map.{cells, at, bankAt, indexAt, configuration, interruptStatus1, interruptStatus2, realTimeStatus2, bankCell}
+use Rattle.w83782d_bus.specs.Registers.{reachOf}
+use Rattle.w83782d_bus.specs.Effects.{remoteOf}
+use Rattle.w83782d_bus.specs.Bus.{State, Written, writeOf, readOf}
+use Rattle.w83782d_claims.specs.BusClaims.{Whole, cellIn, shownIn}
+use Rattle.w83782d_sample.specs.Stored.{voltage, fanCount, sensor1Value, voltageOf, halvesOf, countOf, isStopped}
+use Rattle.w83782d_sample.specs.Conditions.{highLimit, lowLimit, fanLimit, sensor1Over, sensor1Hysteresis, ovtProperty, statusMode, outputMode}
+use Rattle.w83782d_sample.specs.Sample.{Source, firstByte, secondByte, realTimeStatus1, markOf, sampleOf}
+use Rattle.w83782d_sample.specs.Sample.Source.{rail, sensor, fan, chassis}
+use Rattle.w83782d_readings.specs.Outputs.{smiMask1, smiMask2, smiOf}
+
+abbrev pub after : State → Sample → State
+after s x = sampleOf s x .state
+
+-- ---- answers
+
+-- "sensor 2 or 3 outside -256 to 255 half degrees"
+abbrev pub isBad : Sample → Bool
+isBad x = outside (halvesOf x 2) || outside (halvesOf x 3)
+
+-- "sample while 40h bit 0 is 0 or bit 3 is 1"
+abbrev pub isStandby : State → Bool
+isStandby s = isStopped (cellIn s configuration)
+
+-- the whole answer, "3 before 4"; a refused sample leaves everything: "state unchanged"
+pub record Refused (s : State) (x : Sample) : Type 0 where
+  pub three : eqb (sampleOf s x .answer) 3 ≡ isBad x
+  pub four : eqb (sampleOf s x .answer) 4 ≡ (not (isBad x) && isStandby s)
+  pub accepted : eqb (sampleOf s x .answer) 0 ≡ (not (isBad x) && not (isStandby s))
+  pub unchanged : sampleOf s x .answer ≢ 0 → after s x ≡ s
+
+-- ---- what stays
+
+-- the registers that a sample may change: the readings, interrupt status, sensors 2 and 3, real-time status
+unfoldable pub touched : List Span
+touched =
+    span any 0x20 0x2A
+    ∷ span any 0x41 0x42
+    ∷ span (bank 1) 0x50 0x51
+    ∷ span (bank 2) 0x50 0x51
+    ∷ span (bank 4) 0x59 0x5A
+    ∷ []
+
+-- no sample changes any other: no limit, mask, divisor, mode, address or bank; nor the chassis latch
+pub record Frame (s t : State) : Type 0 where
+  pub count : length (t .registers) ≡ length (s .registers)
+  pub others : (c : ℕ) → c < cells → among touched (bankAt c) (indexAt c) ≡ false → cellIn t c ≡ cellIn s c
+  pub chassis : t .latches .chassis ≡ s .latches .chassis
+
+-- ---- conditions, of the sample's own values under the limits and divisors then set
+
+-- a sensor's temperature, over limit and hysteresis, two's complement: "sensor 1 whole degrees; 2 and 3 .. half degrees"
+abbrev pub temperatureOf : Sample → ℕ → ℤ
+temperatureOf x n = choose (eqb n 1) (x .sensor1) (halvesOf x n)
+
+abbrev pub halvesIn : State → ℕ → ℤ
+halvesIn s c = signedOf half9 (nineBits (cellIn s c) (cellIn s (c + 1)))
+
+abbrev pub overLimit : State → ℕ → ℤ
+overLimit s n = choose (eqb n 1) (signedOf half8 (cellIn s sensor1Over)) (halvesIn s (bankCell n + 5))
+
+abbrev pub hysteresis : State → ℕ → ℤ
+hysteresis s n = choose (eqb n 1) (signedOf half8 (cellIn s sensor1Hysteresis)) (halvesIn s (bankCell n + 3))
+
+-- "temperature above its over limit"; below hysteresis
+unfoldable pub isHotter : State → Sample → ℕ → Bool
+isHotter s x n = ltZ (overLimit s n) (temperatureOf x n)
+
+unfoldable pub isColder : State → Sample → ℕ → Bool
+isColder s x n = ltZ (temperatureOf x n) (hysteresis s n)
+
+-- "count above its limit", of the count after division
+unfoldable pub isSlower : State → Sample → ℕ → Bool
+isSlower s x f = ltb (cellIn s (fanLimit f)) (countOf (s .registers) x f)
+
+-- "voltage above high or below low (equal is fine, house)"
+unfoldable pub isBeside : State → Sample → ℕ → Bool
+isBeside s x i = ltb (cellIn s (highLimit i)) (voltageOf x i) || ltb (voltageOf x i) (cellIn s (lowLimit i))
+
+abbrev pub holdsFor : State → Sample → Source → Bool
+holdsFor s x (rail i) = isBeside s x i
+holdsFor s x (sensor n) = isHotter s x n
+holdsFor s x (fan f) = isSlower s x f
+holdsFor s x chassis = false
+
+-- the flag of bit j of a byte
+abbrev pub flagAt : (Source → Bool) → List Source → ℕ → ℕ
+flagAt f b j = flagOf (getD (map f b) j false)
+
+-- "It stores seven codes, three temperatures and three fan counts": the sample's own, the counts divided
+pub record Stores (s : State) (x : Sample) : Type 0 where
+  pub codes : (i : ℕ) → i < 7 → cellIn (after s x) (voltage i) ≡ voltageOf x i
+  pub sensor1 : signedOf half8 (cellIn (after s x) sensor1Value) ≡ x .sensor1
+  pub remote : (n : ℕ) → 2 ≤ n → n ≤ 3 → halvesIn (after s x) (bankCell n) ≡ halvesOf x n
+  pub counts : (f : ℕ) → 1 ≤ f → f ≤ 3 → cellIn (after s x) (fanCount f) ≡ countOf (s .registers) x f
+
+-- "sets the real-time bits": after an accepted sample each is its condition (bit 4 of 5Ah is stored as 0, and read as the latch)
+pub record RealTime (s : State) (x : Sample) : Type 0 where
+  pub first : (j : ℕ) → bit (cellIn (after s x) realTimeStatus1) j ≡ flagAt (holdsFor s x) firstByte j
+  pub second : (j : ℕ) → bit (cellIn (after s x) realTimeStatus2) j ≡ flagAt (holdsFor s x) secondByte j
+
+-- where a fan's real-time bit stands: "fan 1, fan 2" in 59h, "fan 3" in 5Ah
+abbrev pub fanCell : ℕ → ℕ
+fanCell f = choose (eqb f 3) realTimeStatus2 realTimeStatus1
+
+abbrev pub fanBit : ℕ → ℕ
+fanBit f = choose (eqb f 3) 3 (5 + f)
+
+-- an accepted sample rings fan f exactly when its count after division is above its limit
+abbrev pub FanRings : State → Sample → Type 0
+FanRings s x = (f : ℕ) → 1 ≤ f → f ≤ 3 → bit (cellIn (after s x) (fanCell f)) (fanBit f) ≡ flagOf (ltb (cellIn s (fanLimit f)) (countOf (s .registers) x f))
+
+-- ---- "then latches status"
+
+-- one step of a sensor's status mark and of its OVT output, each from the mark that it has
+unfoldable pub statusFor : State → Sample → ℕ → Status
+statusFor s x n = statusOf (statusMode (s .registers) n) (markOf (s .latches) n) (isHotter s x n) (isColder s x n)
+
+unfoldable pub outputFor : State → Sample → ℕ → Output
+outputFor s x n = outputOf (outputMode (s .registers) n) (remoteOf (s .latches) n .output) (isHotter s x n) (isColder s x n)
+
+-- "Voltages and fans latch their bit at each sample where the condition holds", temperatures by their step, and no sample the chassis
+abbrev pub latchesFor : State → Sample → Source → Bool
+latchesFor s x (rail i) = isBeside s x i
+latchesFor s x (sensor n) = statusFor s x n .latched
+latchesFor s x (fan f) = isSlower s x f
+latchesFor s x chassis = false
+
+-- an accepted sample clears no status bit, and sets exactly those that it latches
+pub record StatusOr (s : State) (x : Sample) : Type 0 where
+  pub first : (j : ℕ) → bit (cellIn (after s x) interruptStatus1) j ≡ max (bit (cellIn s interruptStatus1) j) (flagAt (latchesFor s x) firstByte j)
+  pub second : (j : ℕ) → bit (cellIn (after s x) interruptStatus2) j ≡ max (bit (cellIn s interruptStatus2) j) (flagAt (latchesFor s x) secondByte j)
+
+-- each latch and mark after an accepted sample
+pub record LatchesAfter (s : State) (x : Sample) : Type 0 where
+  pub chassis : after s x .latches .chassis ≡ s .latches .chassis
+  pub sensor1 : after s x .latches .sensor1 ≡ statusFor s x 1 .mark
+  pub status : (n : ℕ) → 2 ≤ n → n ≤ 3 → remoteOf (after s x .latches) n .status ≡ statusFor s x n .mark
+  pub output : (n : ℕ) → 2 ≤ n → n ≤ 3 → remoteOf (after s x .latches) n .output .mark ≡ outputFor s x n .mark
+  pub asserted : (n : ℕ) → 2 ≤ n → n ≤ 3 → remoteOf (after s x .latches) n .output .asserted ≡ outputFor s x n .asserted
+
+-- ---- SMI
+abbrev pub smiIn : State → Bool
+smiIn s = smiOf (s .registers) (s .latches .chassis)
+
+-- "an unmasked bit of 41h or 42h is set", as a read shows them
+pub data UnmaskedBit (s : State) : Type 0 where
+  in41h : (j : ℕ) → j < 8 → bit (shownIn s interruptStatus1) j ≡ 1 → bit (cellIn s smiMask1) j ≡ 0 → UnmaskedBit s
+  in42h : (j : ℕ) → j < 8 → bit (shownIn s interruptStatus2) j ≡ 1 → bit (cellIn s smiMask2) j ≡ 0 → UnmaskedBit s
+
+-- "SMI is asserted exactly when 40h bit 1 is 1, bit 3 is 0, and an unmasked bit of 41h or 42h is set."
+pub record Asserts (s : State) : Type 0 where
+  pub enabled : bit (cellIn s configuration) 1 ≡ 1
+  pub running : bit (cellIn s configuration) 3 ≡ 0
+  pub alarm : UnmaskedBit s
+
+abbrev pub SmiExactly : State → Type 0
+SmiExactly s = (smiIn s ≡ true) ↔ Asserts s
+
+-- "Clearing 40h bit 0 stops samples and doesn't clear SMI.": the byte that a read of 40h shows is written back with bit 0 cleared
+abbrev pub standbyOf : State → Written
+standbyOf s = writeOf s 0x40 (bitAnd (shownIn s configuration) 0b1111_1110)
+
+-- that bit changes and nothing else, and SMI is as it was
+pub record Standby (s : State) : Type 0 where
+  pub accepted : standbyOf s .answer ≡ 0
+  pub bits : (c j : ℕ) → j < 8 → bit (cellIn (standbyOf s .state) c) j ≡ choose (eqb c configuration && eqb j 0) 0 (bit (cellIn s c) j)
+  pub latches : standbyOf s .state .latches ≡ s .latches
+  pub stops : isStandby (standbyOf s .state) ≡ true
+  pub smi : smiIn (standbyOf s .state) ≡ smiIn s
+
+-- ---- "Register bits listed below without a rule are stored only."
+
+-- the bits of a register that no rule names
+unfoldable pub ruleless : ℕ → ℕ
+ruleless c =
+    choose (eqb c configuration) 0b0100_0000  -- 40h bit 6
+    (choose (eqb c (at 0x48)) 0b1111_1111  -- the bus address: no event goes by it
+    (choose (eqb c (at 0x4A)) 0b1111_1111
+    (choose (eqb c (at 0x4B)) 0b0011_1100  -- bits 5-2: 7-6 are fan 3's divisor
+    (choose (eqb c ovtProperty) 0b0001_1100  -- 4Ch bits 4-2: bit 6 is a mode
+    (choose (eqb c (at 0x4D)) 0b1111_1111
+    (choose (eqb c (at 0x56)) 0b1111_1111
+    (choose (eqb c (at 0x57)) 0b1111_1111
+    (choose (eqb c (at 0x59)) 0b1111_1111
+    (choose (eqb c (at 0x5C)) 0b1111_1111
+    (choose (eqb c (at 0x5D)) 0b0000_1111  -- bits 3-0: 7-5 are divisor bits
+    (choose (eqb c (bankCell 2 + 2)) 0b0001_1001  -- 52h of bank 1 bits 4, 3, 0: bit 1 is a mode
+    (choose (eqb c (bankCell 3 + 2)) 0b0001_1001  -- and of bank 2
+    0))))))))))))
+
+-- two states that differ in those bits alone
+pub record Alike (s t : State) : Type 0 where
+  pub bits : (c j : ℕ) → c < cells → j < 8 → isOn (ruleless c) j ≡ false → bit (cellIn s c) j ≡ bit (cellIn t c) j
+  pub latches : s .latches ≡ t .latches
+
+-- a read is answered alike, leaves them alike, OVT released in both or in neither, and shows the same in every other bit
+pub record ReadAlike (s t : State) (i : ℕ) : Type 0 where
+  pub answer : readOf s i .answer ≡ readOf t i .answer
+  pub left : Alike (readOf s i .state) (readOf t i .state)
+  pub shown : (j : ℕ) → j < 8 → isOn (ruleless (reachOf (s .registers) i)) j ≡ false
+      → bit (readOf s i .byte) j ≡ bit (readOf t i .byte) j
+
+-- a sample is answered alike, leaves them alike, and leaves those bits; SMI is the same before and after; and so of reads
+pub record StoredOnly (s t : State) (x : Sample) : Type 0 where
+  pub answer : sampleOf s x .answer ≡ sampleOf t x .answer
+  pub left : Alike (after s x) (after t x)
+  pub stays : (c j : ℕ) → c < cells → j < 8 → isOn (ruleless c) j ≡ true → bit (cellIn (after s x) c) j ≡ bit (cellIn s c) j
+  pub smi : smiIn s ≡ smiIn t
+  pub smiAfter : smiIn (after s x) ≡ smiIn (after t x)
+  pub reads : (i : ℕ) → ReadAlike s t i
+
+-- ---- all of it, of one sample as its type holds it: sensor 1 is a signed byte, so nothing is asked of it
+pub record SampleClaims (s : State) (x : Sample) : Type 0 where
+  pub refused : Refused s x
+  pub frame : Frame s (after s x)
+  pub stores : sampleOf s x .answer ≡ 0 → Stores s x
+  pub fanRings : sampleOf s x .answer ≡ 0 → FanRings s x
+  pub realTime : sampleOf s x .answer ≡ 0 → RealTime s x
+  pub statusOr : sampleOf s x .answer ≡ 0 → StatusOr s x
+  pub latchesAfter : sampleOf s x .answer ≡ 0 → LatchesAfter s x
+  -- of the state that it finds
+  pub smiExactly : SmiExactly s
+  pub standby : Standby s
+  -- and of every other state that differs in stored bits alone
+  pub storedOnly : (t : State) → Whole t → Alike s t → StoredOnly s t x

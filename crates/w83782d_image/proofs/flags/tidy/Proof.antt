@@ -1,0 +1,77 @@
+-- The loop's invariant: the flags from 112 up to this one are 0 or 1, every other byte is as it was. The measure is what is
+-- left of 120. Assumes nothing.
+use Prim.Native.Nat.{_≤_, _-_}
+use native.Mathlib.Omega.{arith}
+use mathlib.Core.Path.{_≡_, refl}
+use lib.ListN.{length}
+use lib.Seq.{sets}
+use borrow.Author.Needs.{needs}
+use Rattle.bits.specs.Map.{tabulate}
+use Rattle.w83782d_image.proofs.Images.{put-none}
+use Rattle.w83782d_image.proofs.flags.Flags.{tidied, tidies-next, tidied-all}
+use Rattle.w83782d_image.proofs.flags.tidy.Statement.{statement}
+use Rattle.w83782d_image.proofs.flags.tidy.Tie as tie
+
+abbrev Inv-loop : tie.InvT-loop
+Inv-loop image₀ at₀ image at =
+    (112 ≤ at) × (at ≤ 120) × (length image ≡ length image₀) × (image ≡ sets image₀ 112 (tabulate (at - 112) 112 (tidied image₀)))
+
+abbrev μ-loop : tie.MeasureT-loop
+μ-loop image₀ at₀ image at = 120 - at
+
+returns : tie.Need-returns Inv-loop μ-loop
+returns c = search (needs, put-none)
+
+loop-holds : tie.Need-loop-holds Inv-loop μ-loop
+loop-holds c = (search needs, search needs, refl, refl)
+
+flag-at-requires : tie.Need-flag-at-requires Inv-loop μ-loop
+flag-at-requires c κs = search needs
+
+flag-byte-requires : tie.Need-flag-byte-requires Inv-loop μ-loop
+flag-byte-requires c κs = search needs
+
+put-requires : tie.Need-put-requires Inv-loop μ-loop
+put-requires c κs = search needs
+
+add-at : tie.Need-add-at Inv-loop μ-loop
+add-at c = search needs
+
+loop-less : tie.Need-loop-less Inv-loop μ-loop
+loop-less c = search needs
+
+loop-again : tie.Need-loop-again Inv-loop μ-loop
+loop-again c =
+    let put = c .before .before in
+    let byte = put .before in
+    let look = byte .before in
+    let turn = look .before .before .before .before in
+    let inv = turn .loop .inv in (
+      omega arith,
+      omega arith,
+      search needs,
+      tidies-next (turn .before .before .before .args .image .now) _ _ _ _ _ (inv .0) (inv .3) (look .flag-at .ensures) (byte .flag-byte .ensures) (put .put .ensures),
+    )
+
+same-length : tie.Need-same-length Inv-loop μ-loop
+same-length c = search needs
+
+returns-2 : tie.Need-returns-2 Inv-loop μ-loop
+returns-2 c = search (needs, tidied-all)
+
+pub tidy-spec : {M : Type 1} → statement M
+tidy-spec =
+    tie.close
+    (tie.spec
+    Inv-loop
+    μ-loop
+    returns
+    loop-holds
+    flag-at-requires
+    flag-byte-requires
+    put-requires
+    add-at
+    loop-less
+    loop-again
+    same-length
+    returns-2)

@@ -1,0 +1,22 @@
+-- Setting a plan on a state (document 01, "Planning a fan alarm").
+use Prim.Native.Nat.{ℕ}
+use Rattle.bits.specs.Bits.{choose, isBeyond}
+use Rattle.in_force.specs.Settings.{Fan, fanAt, plannedRegisters}
+use Rattle.fan.specs.Plan.{planAnswer}
+use Rattle.fan.specs.Search.{planOf}
+use Rattle.w83782d_bus.specs.Bus.{State, state, Written, written}
+use Rattle.w83782d_sample.specs.Conditions.{fanLimit}
+use Rattle.w83782d_sample.specs.Stored.{divisorPlaces}
+
+-- "that fan's limit and three divisor bits"
+abbrev pub fans : ℕ
+fans = 3
+
+abbrev pub fanOf : ℕ → Fan
+fanOf f = fanAt (fanLimit f) (divisorPlaces f)
+
+-- "whatever bank is selected and whether or not samples are stopped"; 7 before 6, refused: "state unchanged"
+unfoldable pub setPlanOf : State → ℕ → ℕ → Written
+setPlanOf s f w =
+    choose (isBeyond fans f) (written s 7)
+    (written (state (plannedRegisters (s .registers) (fanOf f) (planOf w)) (s .latches)) (planAnswer (planOf w)))

@@ -1,0 +1,52 @@
+-- SMI and standing alarms by their cases, over plain variables.
+-- Assumes nothing.
+use mathlib.Core.Path.{_≡_}
+use mathlib.Core.Bool.{Bool, true, false, not}
+use mathlib.Core.List.{List}
+use Prim.Native.Nat.{ℕ, _+_, _-_, _^_, _<_, _≤_}
+use borrow.Author.Tests.{eq-eqb, ne-eqb, not-true, not-false}
+use lib.Bits.{bitAnd, bitOr}
+use native.Mathlib.Omega.{arith}
+use lib.Count.{ones, ones-le}
+use lib.Dec.{eqb}
+use lib.ListN.{length, getD}
+use Rattle.bits.specs.Bits.{isOn}
+use Rattle.w83782d_map.specs.Map.{cells, configuration, interruptStatus1, interruptStatus2}
+use Rattle.w83782d_bus.specs.Registers.{withChassis}
+use Rattle.w83782d_readings.specs.Outputs.{smiMask1, smiMask2, smiOf, standingAlarms, outputsOf}
+use Rattle.w83782d_readings.specs.declared.outputs.Outputs.the-variants.{Shown, WrongLength}
+
+-- ---- SMI
+module _ (rs : List ℕ) (chassis : Bool) (c : ℕ) (e : c ≡ getD rs configuration 0) (a : Bool) (f : a ≡ isOn c 1) where
+  pub smi-disabled : not a ≡ true → false ≡ smiOf rs chassis
+  unfolding smiOf
+  smi-disabled t = simp (← e, ← f, not-true a t)
+
+  module _ (n : not a ≡ false) (b : Bool) (g : b ≡ isOn c 3) where
+    pub smi-cleared : b ≡ true → false ≡ smiOf rs chassis
+    unfolding smiOf
+    smi-cleared t = simp (← e, ← f, not-false a n, ← g, t)
+
+    pub smi-told : (x m y z k : ℕ) → b ≡ false → x ≡ getD rs interruptStatus1 0 → m ≡ getD rs smiMask1 0 → y ≡ getD rs interruptStatus2 0 → z ≡ withChassis y chassis → k ≡ getD rs smiMask2 0
+        → not (eqb (bitOr (bitAnd x (255 - m)) (bitAnd z (255 - k))) 0) ≡ smiOf rs chassis
+    unfolding smiOf
+    smi-told x m y z k t ex em ey ez ek = simp (← e, ← f, not-false a n, ← g, t, ← ex, ← em, ← ek, ← ey, ← ez)
+
+pub alarms-few : (x z : ℕ) → x < 2 ^ 8 → z < 2 ^ 8 → ones x + ones z ≤ 16
+alarms-few x z h k = omega (arith, ones-le 8 x h, ones-le 8 z k)
+
+pub alarms-counted : (rs : List ℕ) (chassis : Bool) (x y z : ℕ) → x ≡ getD rs interruptStatus1 0 → y ≡ getD rs interruptStatus2 0 → z ≡ withChassis y chassis
+    → ones x + ones z ≡ standingAlarms rs chassis
+unfolding standingAlarms
+alarms-counted rs chassis x y z ex ey ez = rw (ez, ey, ex)
+
+-- ---- both, of any slice
+module _ (rs : List ℕ) (chassis : Bool) where
+  pub outputs-short : (length rs ≡ cells → ⊥) → WrongLength ≡ outputsOf rs chassis
+  unfolding outputsOf
+  outputs-short n = simp (ne-eqb (length rs) cells n)
+
+  pub outputs-shown : (b : Bool) (n : ℕ) → length rs ≡ cells → b ≡ smiOf rs chassis → (n ≡ standingAlarms rs chassis) × (n ≤ 16)
+      → Shown b n ≡ outputsOf rs chassis
+  unfolding outputsOf
+  outputs-shown b n h e f = simp (eq-eqb (length rs) cells h, e, f .0)

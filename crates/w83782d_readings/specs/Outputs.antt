@@ -1,0 +1,50 @@
+-- SMI and standing alarms (document 01, "What a sample does"), from the bytes that reads show.
+use mathlib.Core.Bool.{Bool, not, _&&_}
+use mathlib.Core.List.{List}
+use Prim.Native.Nat.{ℕ, _+_, _-_}
+use lib.Bits.{bitAnd, bitOr}
+use lib.Count.{ones}
+use lib.Dec.{eqb}
+use lib.ListN.{getD}
+use Rattle.bits.specs.Bits.{choose, isOn}
+use Rattle.w83782d_map.specs.Map.{at, fits, configuration, interruptStatus1, interruptStatus2}
+use Rattle.w83782d_bus.specs.Registers.{withChassis}
+use Rattle.w83782d_readings.specs.declared.outputs.Outputs.{Outputs}
+use Rattle.w83782d_readings.specs.declared.outputs.Outputs.the-variants.{Shown, WrongLength}
+
+abbrev pub smiMask1 : ℕ
+smiMask1 = at 0x43
+
+abbrev pub smiMask2 : ℕ
+smiMask2 = at 0x44
+
+-- 41h and 42h as a read shows them: "the chassis bit .. there .. is the latch itself"
+abbrev pub status1 : List ℕ → ℕ
+status1 rs = getD rs interruptStatus1 0
+
+abbrev pub status2 : List ℕ → Bool → ℕ
+status2 rs chassis = withChassis (getD rs interruptStatus2 0) chassis
+
+-- the bits of a status byte that its mask leaves: a mask bit at 1 keeps its status bit from SMI (7.6, 7.7). decision D-40
+abbrev pub unmasked : ℕ → ℕ → ℕ
+unmasked status mask = bitAnd status (255 - mask)
+
+-- "SMI is asserted exactly when 40h bit 1 is 1, bit 3 is 0, and an unmasked bit of 41h or 42h is set."
+unfoldable pub smiOf : List ℕ → Bool → Bool
+smiOf rs chassis =
+    isOn (getD rs configuration 0) 1
+    && not (isOn (getD rs configuration 0) 3)
+    && not (eqb (bitOr (unmasked (status1 rs) (getD rs smiMask1 0)) (unmasked (status2 rs chassis) (getD rs smiMask2 0))) 0)
+
+-- "The number of standing alarms is the count of set bits in 41h and 42h."
+unfoldable pub standingAlarms : List ℕ → Bool → ℕ
+standingAlarms rs chassis = ones (status1 rs) + ones (status2 rs chassis)
+
+-- ---- of any slice: one that is not the registers' 112 cells is refused as 8. decision D-01
+unfoldable pub outputsOf : List ℕ → Bool → Outputs
+outputsOf rs chassis = choose (fits rs) (Shown (smiOf rs chassis) (standingAlarms rs chassis)) WrongLength
+
+-- the number of the answer table
+abbrev pub outputsAnswer : Outputs → ℕ
+outputsAnswer (Shown smi alarms) = 0
+outputsAnswer WrongLength = 8

@@ -1,0 +1,97 @@
+-- The conditions and the modes that a sample looks at, of the registers with the readings stored (document 01, "What a sample
+-- does"). Rails are numbered 0 to 6, sensors and fans 1 to 3.
+use mathlib.Core.Bool.{Bool, true, false, not, _||_}
+use mathlib.Core.List.{List, [], _∷_}
+use Prim.Native.Nat.{ℕ, _+_, _*_}
+use lib.Dec.{ltb, eqb}
+use lib.ListN.{getD}
+use Rattle.bits.specs.Bits.{choose, isOn, word}
+use Rattle.fan.specs.Count.{overLimit}
+use Rattle.analog.specs.Temperature.{half8, half9, levelOf, nineBits}
+use Rattle.sensor.specs.declared.Mode.{Mode}
+use Rattle.sensor.specs.declared.Mode.the-variants.{Comparator, Interrupt}
+use Rattle.w83782d_map.specs.Map.{at, bankCell}
+use Rattle.w83782d_bus.specs.Registers.{isInterrupt}
+use Rattle.w83782d_sample.specs.Stored.{voltage, fanCount, sensor1Value}
+use Rattle.w83782d_sample.specs.declared.conditions.Stand.{Stand}
+use Rattle.w83782d_sample.specs.declared.conditions.Compared.{Compared}
+
+-- ---- the limits of a rail, a sensor and a fan, and cells that name modes
+-- "high, low limit of each voltage in that order", from 2Bh
+abbrev pub highLimit : ℕ → ℕ
+highLimit i = at 0x2B + 2 * i
+
+abbrev pub lowLimit : ℕ → ℕ
+lowLimit i = at 0x2C + 2 * i
+
+abbrev pub fanLimit : ℕ → ℕ
+fanLimit f = at 0x3A + f
+
+abbrev pub sensor1Over : ℕ
+sensor1Over = at 0x39
+
+abbrev pub sensor1Hysteresis : ℕ
+sensor1Hysteresis = at 0x3A
+
+abbrev pub ovtProperty : ℕ
+ovtProperty = at 0x4C
+
+-- ---- conditions, of the registers with the readings stored
+
+-- "voltage above high or below low (equal is fine, house)"
+unfoldable pub isOutside : List ℕ → ℕ → Bool
+isOutside rs i = ltb (getD rs (highLimit i) 0) (getD rs (voltage i) 0) || ltb (getD rs (voltage i) 0) (getD rs (lowLimit i) 0)
+
+-- temperatures as levels, which compare as the signed numbers do: a byte, and nine bits from a cell
+abbrev pub wholeLevelAt : List ℕ → ℕ → ℕ
+wholeLevelAt rs c = levelOf half8 (getD rs c 0)
+
+abbrev pub halfLevelAt : List ℕ → ℕ → ℕ
+halfLevelAt rs c = levelOf half9 (nineBits (getD rs c 0) (getD rs (c + 1) 0))
+
+-- sensors 2 and 3, by the first cell of their bank
+abbrev pub aboveAt : List ℕ → ℕ → Bool
+aboveAt rs c = ltb (halfLevelAt rs (c + 5)) (halfLevelAt rs c)
+
+abbrev pub belowAt : List ℕ → ℕ → Bool
+belowAt rs c = ltb (halfLevelAt rs c) (halfLevelAt rs (c + 3))
+
+-- "temperature above its over limit"
+unfoldable pub isAbove : List ℕ → ℕ → Bool
+isAbove rs n = choose (eqb n 1) (ltb (wholeLevelAt rs sensor1Over) (wholeLevelAt rs sensor1Value)) (aboveAt rs (bankCell n))
+
+unfoldable pub isBelow : List ℕ → ℕ → Bool
+isBelow rs n = choose (eqb n 1) (ltb (wholeLevelAt rs sensor1Value) (wholeLevelAt rs sensor1Hysteresis)) (belowAt rs (bankCell n))
+
+-- "count above its limit"
+unfoldable pub isSlow : List ℕ → ℕ → Bool
+isSlow rs f = overLimit (getD rs (fanCount f) 0) (getD rs (fanLimit f) 0)
+
+-- ---- modes
+abbrev pub modeIf : Bool → Mode
+modeIf true = Comparator
+modeIf false = Interrupt
+
+-- "Sensor 1 is in comparator mode when 3Ah is 127, else two-times. For sensors 2 and 3 it is 4Ch bit 6", at 1 comparator (section 7.16)
+unfoldable pub statusMode : List ℕ → ℕ → Mode
+statusMode rs n = choose (eqb n 1) (modeIf (eqb (getD rs sensor1Hysteresis 0) 127)) (modeIf (isOn (getD rs ovtProperty 0) 6))
+
+-- OVT of sensors 2 and 3, by the mode that a read releases by
+unfoldable pub outputMode : List ℕ → ℕ → Mode
+outputMode rs n = modeIf (not (isInterrupt rs n))
+
+-- ---- what a sample finds: where each sensor stands, the bits of rails and fans in both bytes (the sensors' off), the OVT modes
+unfoldable pub standOf : List ℕ → ℕ → Stand
+standOf rs n = record { mode = statusMode rs n; above = isAbove rs n; below = isBelow rs n }
+
+unfoldable pub comparedOf : List ℕ → Compared
+comparedOf rs =
+    record {
+      first = word (isOutside rs 0 ∷ isOutside rs 1 ∷ isOutside rs 2 ∷ isOutside rs 3 ∷ false ∷ false ∷ isSlow rs 1 ∷ isSlow rs 2 ∷ []);
+      second = word (isOutside rs 4 ∷ isOutside rs 5 ∷ isOutside rs 6 ∷ isSlow rs 3 ∷ false ∷ false ∷ false ∷ false ∷ []);
+      one = standOf rs 1;
+      two = standOf rs 2;
+      three = standOf rs 3;
+      output2 = outputMode rs 2;
+      output3 = outputMode rs 3;
+    }

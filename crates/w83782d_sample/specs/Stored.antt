@@ -1,0 +1,102 @@
+-- What a sample stores and when it is refused (document 01, "What a sample does"). Rails are numbered 0 to 6, sensors and fans 1 to 3.
+use mathlib.Core.Bool.{Bool, not, _||_}
+use mathlib.Core.List.{List, [], _∷_, _++_, map}
+use Prim.Native.Nat.{ℕ, _+_, _-_}
+use lib.Dec.{eqb}
+use lib.IntN.{ℤ, pos}
+use lib.ListN.{getD, set}
+use Rattle.bits.specs.Bits.{choose, isOn}
+use Rattle.bits.specs.declared.Bit.{Bit}
+use Rattle.bits.specs.declared.Bit.the-variants.{B4, B5, B6, B7}
+use Rattle.bits.specs.declared.fields.Place.{Place}
+use Rattle.fan.specs.Count.{valueOf, storedOf}
+use Rattle.fan.specs.Divisors.{divisorAt}
+use Rattle.fan.specs.declared.Divisor.{Divisor}
+use Rattle.fan.specs.declared.Undivided.{Undivided}
+use Rattle.analog.specs.Temperature.{half8, codeOf, outside, halfCodeOf, halfHigh, halfLow}
+use Rattle.w83782d_record.specs.declared.samples.Sample.{Sample}
+use Rattle.w83782d_map.specs.Map.{at, configuration, bankCell}
+
+-- ---- the cells of a rail, a sensor and a fan
+abbrev pub voltage : ℕ → ℕ
+voltage i = at 0x20 + i
+
+abbrev pub fanCount : ℕ → ℕ
+fanCount f = at 0x27 + f
+
+abbrev pub sensor1Value : ℕ
+sensor1Value = at 0x27
+
+-- ---- a fan's divisor: "fan 2 divisor 7-6, fan 1 divisor 5-4" of 47h, "fan 3 divisor 7-6" of 4Bh, "divisor top bits: fan 3, 2, 1 in 7, 6, 5" of 5Dh
+abbrev pub place : ℕ → Bit → Place
+place c b = record { cell = c; bit = b }
+
+abbrev pub divisorPlaces : ℕ → List Place
+divisorPlaces f =
+    choose (eqb f 1) (place (at 0x47) B4 ∷ place (at 0x47) B5 ∷ place (at 0x5D) B5 ∷ [])
+    (choose (eqb f 2) (place (at 0x47) B6 ∷ place (at 0x47) B7 ∷ place (at 0x5D) B6 ∷ [])
+    (place (at 0x4B) B6 ∷ place (at 0x4B) B7 ∷ place (at 0x5D) B7 ∷ []))
+
+abbrev pub divisorOf : List ℕ → ℕ → Divisor
+divisorOf rs f = divisorAt rs (divisorPlaces f)
+
+-- ---- stores, one after another
+pub record Store : Type 0 where
+  pub cell : ℕ
+  pub byte : ℕ
+
+infixl 20 _≔_
+abbrev pub _≔_ : ℕ → ℕ → Store
+c ≔ b = record { cell = c; byte = b }
+
+abbrev pub puts : List ℕ → List Store → List ℕ
+puts rs [] = rs
+puts rs (w ∷ ws) = puts (set rs (w .cell) (w .byte)) ws
+
+-- ---- the readings that a sample stores, whole bytes: "seven codes, three temperatures and three fan counts". decision D-46
+abbrev pub voltageOf : Sample → ℕ → ℕ
+voltageOf x i = getD (x .codes) i 0
+
+abbrev pub halvesOf : Sample → ℕ → ℤ
+halvesOf x n = getD (x .remote) (n - 2) (pos 0)
+
+abbrev pub none : Undivided
+none = record { 0 = 0 }
+
+-- "the stored count is u divided by the divisor, rounded down, at most 255"
+abbrev pub countOf : List ℕ → Sample → ℕ → ℕ
+countOf rs x f = storedOf (getD (x .counts) (f - 1) none .0) (valueOf (divisorOf rs f))
+
+abbrev pub rails : List ℕ
+rails = 0 ∷ 1 ∷ 2 ∷ 3 ∷ 4 ∷ 5 ∷ 6 ∷ []
+
+abbrev pub fans : List ℕ
+fans = 1 ∷ 2 ∷ 3 ∷ []
+
+-- "nine bits, high byte and bit 7 of the low byte, in half degrees"
+abbrev pub halves : Sample → ℕ → List Store
+halves x n = (bankCell n ≔ halfHigh (halfCodeOf (halvesOf x n))) ∷ ((bankCell n + 1) ≔ halfLow (halfCodeOf (halvesOf x n))) ∷ []
+
+-- the counts go by the divisors now set; all cells are distinct
+abbrev pub readings : List ℕ → Sample → List Store
+readings rs x =
+    map (λ f. fanCount f ≔ countOf rs x f) fans
+    ++ map (λ i. voltage i ≔ voltageOf x i) rails
+    ++ (sensor1Value ≔ codeOf half8 (x .sensor1)) ∷ halves x 2
+    ++ halves x 3
+
+unfoldable pub storedReadings : List ℕ → Sample → List ℕ
+storedReadings rs x = puts rs (readings rs x)
+
+-- ---- the refusals, in order: "3 before 4"
+
+-- 4: "sample while 40h bit 0 is 0 or bit 3 is 1"
+abbrev pub isStopped : ℕ → Bool
+isStopped c = not (isOn c 0) || isOn c 3
+
+-- and 3: "sample with sensor 2 or 3 outside -256 to 255 half degrees"
+unfoldable pub sampleAnswer : List ℕ → Sample → ℕ
+sampleAnswer rs x =
+    choose (outside (halvesOf x 2)) 3
+    (choose (outside (halvesOf x 3)) 3
+    (choose (isStopped (getD rs configuration 0)) 4 0))

@@ -1,7 +1,7 @@
 // A session of plans: alarms set for the three fans, mixed with the writes, resets and refusals that end them or don't.
 // A line for each step: the answer, the divisors' registers, the three limits, and which fans' real-time bits bank 4 shows.
 //
-// What each line must say, from document 01. Power-on has 47h 50h (fans 1 and 2 by 2), 4Bh 44h (fan 3 by 2), 5Dh 00h, limits 0.
+// What each line must say, from the rules. Power-on has 47h 50h (fans 1 and 2 by 2), 4Bh 44h (fan 3 by 2), 5Dh 00h, limits 0.
 //   1 at 4400        d 2, L 152 (98h): fan 1's bits of 47h are 01 as before. The real-time bits wait for a sample.
 //   u 305, u 306     (L+1)d is 306: 305 doesn't ring and 306 does.
 //   2 at 42          d 128, L 250 (FAh): 47h bits 7-6 are 11 and 5Dh bit 6 is 1; fan 1's bits stay, and it rings as before.

@@ -1,4 +1,4 @@
--- Millivolts. Document 01, "Readings".
+-- Millivolts (rules R-1, A-7).
 use Prim.Native.Nat.{ℕ, suc, _+_, _*_, _/_, _≤_, _<_}
 use mathlib.Core.Path.{_≡_}
 use mathlib.Core.Bool.{Bool, not, _&&_, _||_}
@@ -17,13 +17,13 @@ readingAnswer (Millivolts z) = 0
 readingAnswer Refused = 7
 readingAnswer WrongLength = 8
 
--- the millivolts that are read; refused: "reading 0"
+-- the millivolts that are read; refused: 0
 abbrev pub readingValue : Reading → ℤ
 readingValue (Millivolts z) = z
 readingValue Refused = pos 0
 readingValue WrongLength = pos 0
 
--- "nearest, halves away from zero": z / d
+-- nearest, halves away from zero: z / d
 abbrev pub nearestZ : ℤ → ℕ → ℤ
 nearestZ (pos n) d = pos (nearest n d)
 nearestZ (negsuc n) d = negℤ (pos (nearest (suc n) d))
@@ -32,15 +32,15 @@ nearestZ (negsuc n) d = negℤ (pos (nearest (suc n) d))
 abbrev pub reading : ℕ → ℕ → ℕ → Reading
 reading a b d = Millivolts (nearestZ (pos a -ℤ pos b) d)
 
--- "a whole 1 to 1,000 kilo-ohm"
+-- A-7: 1 to 1,000 kilo-ohm
 abbrev pub isResistor : ℕ → Bool
 isResistor r = leb 1 r && leb r 1000
 
--- "both negative rails, with resistors R5 and R6 from the caller, (16c(R5+R6) - 3600 R5) / R6"
+-- R-1: -12 and -5 by the caller's resistors, (16c(R5+R6) - 3600 R5) / R6
 unfoldable pub railOf : ℕ → ℕ → ℕ → Reading
 railOf c r5 r6 = choose (isResistor r5 && isResistor r6) (reading (16 * c * (r5 + r6)) (3600 * r5) r6) Refused
 
--- "channels 0 to 2, 16c; +5, 672c/25; +12, 304c/5; both negative rails": VCOREA, VINR0, +3.3, +5, +12, -12, -5
+-- R-1, channel by channel: VCOREA, VINR0, +3.3, +5, +12, -12, -5
 abbrev pub voltages : ℕ → ℕ → ℕ → List Reading
 voltages c r5 r6 =
     reading (16 * c) 0 1 ∷
@@ -52,11 +52,11 @@ voltages c r5 r6 =
     railOf c r5 r6 ∷
     []
 
--- the reading of a channel; "voltage channel not 0 to 6" is refused
+-- the reading of a channel; any but 0 to 6 is refused
 unfoldable pub millivoltsOf : ℕ → ℕ → ℕ → ℕ → Reading
 millivoltsOf channel c r5 r6 = getD (voltages c r5 r6) channel Refused
 
--- "7: voltage channel not 0 to 6, or, for channels 5 and 6 only, a resistor not a whole 1 to 1,000 kilo-ohm"
+-- A-7: a channel above 6, or, on channels 5 and 6 only, what is no resistor
 abbrev pub answerFor : ℕ → ℕ → ℕ → ℕ
 answerFor channel r5 r6 = choose (ltb 6 channel || ltb 4 channel && not (isResistor r5 && isResistor r6)) 7 0
 

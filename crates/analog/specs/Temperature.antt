@@ -1,4 +1,4 @@
--- Temperatures. Document 01, "What a sample does".
+-- Temperatures (rules S-4, A-3).
 -- Each rule is over half the range of the codes, h.
 use Prim.Native.Nat.{ℕ, suc, _+_, _-_, _*_, _/_, _%_, _<_}
 use mathlib.Core.Path.{_≡_}
@@ -10,15 +10,15 @@ use Rattle.bits.specs.Bits.{choose}
 use Rattle.analog.specs.declared.HalfCode.{HalfCode}
 use Rattle.analog.specs.declared.HalfCode.the-variants.{Code, OutOfRange}
 
--- "sensor 1 whole degrees": a byte
+-- sensor 1, whole degrees: a byte
 abbrev pub half8 : ℕ
 half8 = 128
 
--- "2 and 3 nine bits, .. in half degrees"
+-- sensors 2 and 3, half degrees: nine bits
 abbrev pub half9 : ℕ
 half9 = 256
 
--- "Temperatures are two's complement"
+-- S-4: two's complement
 unfoldable pub signedOf : ℕ → ℕ → ℤ
 signedOf h code = choose (ltb code h) (pos code) (negℤ (pos (2 * h - code)))
 
@@ -36,11 +36,11 @@ holds h (negsuc n) = ltb n h
 abbrev pub levelOf : ℕ → ℕ → ℕ
 levelOf h code = (code + h) % (2 * h)
 
--- "2 and 3 nine bits, high byte and bit 7 of the low byte"
+-- S-4: a high byte, and bit 7 of the low byte
 abbrev pub nineBits : ℕ → ℕ → ℕ
 nineBits high low = 2 * high + low / 128
 
--- "outside -256 to 255 half degrees": what nine bits don't hold
+-- A-3: outside -256 to 255 half degrees, what nine bits don't hold
 unfoldable pub outside : ℤ → Bool
 outside z = ltZ z (negsuc 255) || ltZ (pos 255) z
 
@@ -48,7 +48,7 @@ outside z = ltZ z (negsuc 255) || ltZ (pos 255) z
 unfoldable pub halfCodeOf : ℤ → HalfCode
 halfCodeOf z = choose (outside z) OutOfRange (Code (codeOf half9 z / 2) (codeOf half9 z % 2 * 128))
 
--- the number of the answer table: "3: sensor 2 or 3 outside -256 to 255 half degrees"
+-- the answer: A-3 out of range
 abbrev pub halfAnswer : HalfCode → ℕ
 halfAnswer (Code high low) = 0
 halfAnswer OutOfRange = 3

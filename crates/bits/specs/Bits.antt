@@ -12,7 +12,7 @@ abbrev pub choose : {A : Type 0} → Bool → A → A → A
 choose true a b = a
 choose false a b = b
 
--- "not 1 to 3", or to another last one: what fans, sensors and outputs are numbered by
+-- A-7: not 1 to the last one, which is how fans, sensors and outputs are numbered
 abbrev pub isBeyond : ℕ → ℕ → Bool
 isBeyond last n = ltb n 1 || ltb last n
 

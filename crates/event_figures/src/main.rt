@@ -1,4 +1,4 @@
-// Document 01's figure "Record of writing 50h to 47h: 01 47 50, then 29 zeros", run: the record is written, its bytes are
+// The figure for the record of writing 50h to 47h, 01 47 50 and 29 zeros, run: the record is written, its bytes are
 // printed, and what they decode to.
 use fan::Undivided;
 use libc::STDOUT_FILENO;

@@ -1,4 +1,4 @@
--- Fan counts, as counted and after division. Document 01, "What a sample does".
+-- Fan counts, as counted and after division (rules S-2, S-3, S-7, P-4).
 use Prim.Native.Nat.{ℕ, _*_, _/_, _%_, _^_, _<_, min}
 use mathlib.Core.Path.{_≡_}
 use mathlib.Core.Bool.{Bool}
@@ -13,7 +13,7 @@ use Rattle.fan.specs.declared.Divisor.the-variants.{By1, By2, By4, By8, 
 abbrev pub perMinute : ℕ
 perMinute = 1350000
 
--- "The divisor is 2 to the power k, k being three bits": k of each of the eight
+-- S-2: k of each of the eight divisors
 abbrev pub exponentOf : Divisor → ℕ
 exponentOf By1 = 0
 exponentOf By2 = 1
@@ -24,7 +24,7 @@ exponentOf By32 = 5
 exponentOf By64 = 6
 exponentOf By128 = 7
 
--- "The divisor is 2 to the power k"
+-- S-2: 2 to the power k
 abbrev pub valueOf : Divisor → ℕ
 valueOf d = 2 ^ exponentOf d
 
@@ -32,24 +32,24 @@ valueOf d = 2 ^ exponentOf d
 abbrev pub divisors : List Divisor
 divisors = By1 ∷ By2 ∷ By4 ∷ By8 ∷ By16 ∷ By32 ∷ By64 ∷ By128 ∷ []
 
--- "k being three bits": the low three of any number
+-- k is three bits: the low three of any number
 unfoldable pub fromBits : ℕ → Divisor
 fromBits n = getD divisors (n % 8) By1
 
--- one of the eight as a number: "2 to the power k, k being three bits"
+-- one of the eight as a number: 2 to a power of three bits
 pub record IsDivisor (d : ℕ) : Type 0 where
   pub exponent : ℕ
   pub three-bits : exponent < 8
   pub power : d ≡ 2 ^ exponent
 
--- "the stored count is u divided by the divisor, rounded down, at most 255"
+-- S-3: u over the divisor, rounded down, at most 255
 abbrev pub storedOf : ℕ → ℕ → ℕ
 storedOf u d = min 255 (u / d)
 
--- "A fan at a/b rpm (b at least 1) gives u = 1,350,000 b / a rounded down, at most 4,294,967,295; a = 0 gives that maximum."
+-- P-4: the undivided count of a/b rpm; a fan that doesn't turn has the largest
 abbrev pub countOf : ℕ → ℕ → ℕ
 countOf a b = choose (eqb a 0) 4294967295 (min 4294967295 (perMinute * b / a))
 
--- "count above its limit", of the stored count. decision D-41
+-- S-7: the stored count is above its limit. decision D-41
 abbrev pub overLimit : ℕ → ℕ → Bool
 overLimit count limit = ltb limit count

@@ -1,4 +1,4 @@
--- A divisor's three bits in the registers, wherever they lie. Document 01, "Planning a fan alarm" and "Which form goes where".
+-- A divisor's three bits in the registers, wherever they are (rules S-2, P-5).
 use mathlib.Core.Path.{_≡_}
 use mathlib.Core.Bool.{true, false}
 use mathlib.Core.List.{List}
@@ -10,11 +10,11 @@ use Rattle.bits.specs.declared.fields.Place.{Place}
 use Rattle.fan.specs.declared.Divisor.{Divisor}
 use Rattle.fan.specs.Count.{exponentOf, fromBits}
 
--- the divisor now set: "2 to the power k, k being three bits", gathered lowest first
+-- S-2: the divisor now set, its bits gathered lowest first
 unfoldable pub divisorAt : List ℕ → List Place → Divisor
 divisorAt rs ps = fromBits (gatherOf rs ps)
 
--- "writes that fan's .. three divisor bits, and nothing else"
+-- P-5: the three bits given, and nothing else
 unfoldable pub withDivisor : List ℕ → List Place → Divisor → List ℕ
 withDivisor rs ps d = replaceOf rs ps (exponentOf d)
 

@@ -1,4 +1,4 @@
--- What a plan is, and what is claimed of it. Document 01, "Planning a fan alarm".
+-- What a plan is, and what is claimed of it (rules P-1 to P-3, P-8).
 use Prim.Native.Nat.{ℕ, _+_, _*_, _/_, _^_, _≤_, _<_}
 use mathlib.Core.Path.{_≡_}
 use mathlib.Core.Bool.{Bool, true, _||_}
@@ -8,17 +8,17 @@ use Rattle.fan.specs.declared.planner.Planned.{Planned}
 use Rattle.fan.specs.declared.planner.Planned.the-variants.{Plan, Refused}
 use Rattle.fan.specs.Count.{perMinute, valueOf, IsDivisor, storedOf, countOf, overLimit}
 
--- the number of the answer table: a plan is accepted, "6: planned speed 0 or above 1,350,000"
+-- the answer: a plan is accepted, none is A-6
 abbrev pub planAnswer : Planned → ℕ
 planAnswer (Plan d l) = 0
 planAnswer Refused = 6
 
--- the divisor d of a plan; "no plan": 0
+-- the divisor d of a plan; of none 0
 abbrev pub planDivisor : Planned → ℕ
 planDivisor (Plan d l) = valueOf d
 planDivisor Refused = 0
 
--- the limit L of a plan; "no plan": 0
+-- the limit L of a plan; of none 0
 abbrev pub planLimit : Planned → ℕ
 planLimit (Plan d l) = l
 planLimit Refused = 0
@@ -27,21 +27,21 @@ planLimit Refused = 0
 abbrev pub ringsFrom : ℕ → ℕ → ℕ
 ringsFrom d l = (l + 1) * d
 
--- "Ask for w rpm: with K = 1,350,000 / w rounded down"
+-- P-2: K = 1,350,000 / w rounded down
 abbrev pub asked : ℕ → ℕ
 asked w = perMinute / w
 
 pub record IsPlan (w d l : ℕ) : Type 0 where
-  -- "A plan is a divisor d and a limit L from 0 to 254."
+  -- P-1
   pub divisor : IsDivisor d
   pub limit : l ≤ 254
-  -- "the plan has the largest (L+1)d not above K"
+  -- P-2: the largest (L+1)d not above K
   pub within : ringsFrom d l ≤ asked w
   pub largest : (e m : ℕ) → IsDivisor e → m ≤ 254 → ringsFrom e m ≤ asked w → ringsFrom e m ≤ ringsFrom d l
-  -- "of equals, the smallest d"
+  -- P-2: of equals the smallest d
   pub smallest : (e m : ℕ) → IsDivisor e → m ≤ 254 → ringsFrom e m ≡ ringsFrom d l → d ≤ e
 
--- "planned speed 0 or above 1,350,000"
+-- A-6: 0, or above 1,350,000
 abbrev pub isNoSpeed : ℕ → Bool
 isNoSpeed w = eqb w 0 || ltb perMinute w
 
@@ -54,11 +54,11 @@ pub record IsPlanned (w : ℕ) (p : Planned) : Type 0 where
   pub answer : planAnswer p ≡ answerFor w
   pub plan : planAnswer p ≡ 0 → IsPlan w (planDivisor p) (planLimit p)
 
--- "Any divisor of the eight with any limit 0 to 255 rings": the stored count of u is above the limit
+-- P-8: a divisor and a limit ring for u when its stored count is above the limit
 abbrev pub ringsAt : ℕ → ℕ → ℕ → Bool
 ringsAt d l u = overLimit (storedOf u d) l
 
--- "It rings for u exactly when u >= (L+1)d."
+-- P-3: from (L+1)d on
 abbrev pub planRings : ℕ → ℕ → ℕ → Bool
 planRings d l u = leb (ringsFrom d l) u
 

@@ -1,4 +1,4 @@
--- The speed reading. Document 01, "Readings".
+-- The speed reading (rule R-2).
 use Prim.Native.Nat.{ℕ, _*_}
 use lib.Dec.{eqb}
 use Rattle.bits.specs.Bits.{choose}
@@ -7,7 +7,7 @@ use Rattle.fan.specs.declared.Speed.{Speed}
 use Rattle.fan.specs.declared.Speed.the-variants.{Rpm, TooFast, TooSlow, Refused, WrongLength}
 use Rattle.fan.specs.Count.{perMinute}
 
--- the number of the answer table: "7: fan not 1 to 3"; "too fast" and "too slow" are accepted. decisions D-47, D-01
+-- the answer: A-7, A-8; "too fast" and "too slow" are accepted. decisions D-47, D-01
 abbrev pub speedAnswer : Speed → ℕ
 speedAnswer (Rpm n) = 0
 speedAnswer TooFast = 0
@@ -15,7 +15,7 @@ speedAnswer TooSlow = 0
 speedAnswer Refused = 7
 speedAnswer WrongLength = 8
 
--- the number that is read; "never a number" and "reading 0": 0
+-- the number that is read; 0 where there is none
 abbrev pub speedValue : Speed → ℕ
 speedValue (Rpm n) = n
 speedValue TooFast = 0
@@ -23,6 +23,6 @@ speedValue TooSlow = 0
 speedValue Refused = 0
 speedValue WrongLength = 0
 
--- "for count 1 to 254 it is 1,350,000 / (count x divisor), nearest, halves up; count 0 answers "too fast" and 255 "too slow", never a number"
+-- R-2: 1,350,000 / (count x divisor), nearest, halves up; count 0 is too fast, 255 too slow
 unfoldable pub speedOf : ℕ → ℕ → Speed
 speedOf count d = choose (eqb count 0) TooFast (choose (eqb count 255) TooSlow (Rpm (nearest perMinute (count * d))))

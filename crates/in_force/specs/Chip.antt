@@ -1,4 +1,4 @@
--- Demand 3, whole, for any chip: an alarm speed asked for is an alarm that rings (document 01, "Planning a fan alarm").
+-- Demand 3, whole, for any chip: an alarm speed asked for is an alarm that rings (rule P-9).
 -- It is one claim about every list of calls. Laws.antt says what a chip must have for it.
 use mathlib.Core.Path.{_≡_}
 use mathlib.Core.Bool.{Bool, true, false}
@@ -117,7 +117,7 @@ module _ {S C : Type 0} (K : Chip S C) (f : ℕ) where
   -- asking for 1 to 1,350,000 rpm
   pub record SetsPlan (s : S) (c : C) (w : ℕ) : Type 0 where
     pub answer : K .answer s c ≡ 0
-    -- it sets document 01's plan (d, L) for that speed, and changes no register bit but that fan's limit and divisor
+    -- it sets the plan (d, L) for that speed (P-2), and changes no register bit but that fan's limit and divisor
     pub set : PlanSet (K .registers s) (K .registers (K .step s c)) (K .fan f) w
     -- nor anything besides the registers
     pub alone : K .step s c ≡ K .instead s (K .registers (K .step s c))

@@ -1,4 +1,4 @@
--- How long a plan is in force over a list of calls, for any machine (document 01, "Planning a fan alarm").
+-- How long a plan is in force over a list of calls, for any machine (rules P-6, P-7).
 -- It is computed from the calls and their answers alone, never from the registers. decision D-49
 use mathlib.Core.Path.{_≡_}
 use mathlib.Core.Bool.{Bool, true, false, not, _&&_, _||_}

@@ -1,4 +1,4 @@
--- A fan's settings in the registers, wherever they lie, and setting a plan (document 01, "Planning a fan alarm").
+-- A fan's settings in the registers, wherever they are, and setting a plan (rule P-5).
 use mathlib.Core.Bool.{Bool, false, not, _&&_, _||_}
 use mathlib.Core.List.{List, [], _∷_}
 use Prim.Native.Nat.{ℕ}
@@ -29,7 +29,7 @@ limitIn rs f = getD rs (f .limit) 0
 abbrev pub divisorIn : List ℕ → Fan → Divisor
 divisorIn rs f = divisorAt rs (f .places)
 
--- ---- "Setting it writes that fan's limit and three divisor bits, and nothing else"
+-- ---- P-5: that fan's limit and three divisor bits, and nothing else
 abbrev pub settings : Fan → Divisor → ℕ → List Change
 settings f d l = change (f .limit) 0xFF l ∷ digitsOf (f .places) (exponentOf d)
 
@@ -37,7 +37,7 @@ abbrev pub plannedRegisters : List ℕ → Fan → Planned → List ℕ
 plannedRegisters rs f (Plan d l) = changes rs (settings f d l)
 plannedRegisters rs f Refused = rs
 
--- of n fans: 7 for a "fan not 1 to" n, before 6
+-- of n fans: A-7 before A-6
 abbrev pub setAnswer : ℕ → ℕ → ℕ → ℕ
 setAnswer n f w = choose (isBeyond n f) 7 (answerFor w)
 

@@ -1,4 +1,4 @@
--- What is claimed of setting a plan, on registers (document 01, "Planning a fan alarm"; planner, Plan.antt).
+-- What is claimed of setting a plan, on registers (rule P-5; fan, Plan.antt).
 use mathlib.Core.Path.{_≡_}
 use mathlib.Core.Bool.{false}
 use mathlib.Core.List.{List}
@@ -14,7 +14,7 @@ use Rattle.fan.specs.Search.{planOf}
 use Rattle.fan.specs.declared.planner.Planned.the-variants.{Plan}
 use Rattle.in_force.specs.Settings.{Fan, limitIn, divisorIn}
 
--- the registers ts have document 01's plan for w on a fan, and differ from rs in nothing else
+-- the registers ts have the plan for w (P-2) on a fan, and differ from rs in nothing else
 pub record PlanSet (rs ts : List ℕ) (f : Fan) (w : ℕ) : Type 0 where
   pub divisor : Divisor
   pub limit : ℕ
@@ -23,5 +23,5 @@ pub record PlanSet (rs ts : List ℕ) (f : Fan) (w : ℕ) : Type 0 where
   -- gathering gives back the plan's divisor and limit
   pub divisorSet : divisorIn ts f ≡ divisor
   pub limitSet : limitIn ts f ≡ limit
-  -- "that fan's limit and three divisor bits, and nothing else"
+  -- and no bit but that fan's limit and divisor changes
   pub kept : (c j : ℕ) → j < 8 → eqb c (f .limit) ≡ false → isIn (f .places) c j ≡ false → bit (getD ts c 0) j ≡ bit (getD rs c 0) j

@@ -1,7 +1,7 @@
--- Rounding. Document 01, "Readings".
+-- Rounding (rules R-1, R-2).
 use Prim.Native.Nat.{ℕ, _+_, _*_, _/_, _≤_, _<_}
 
--- "nearest, halves up": n / d
+-- nearest, halves up: n / d
 unfoldable pub nearest : ℕ → ℕ → ℕ
 nearest n d = (2 * n + d) / (2 * d)
 

@@ -33,17 +33,17 @@ writeOf m i v = answered (Bus.writeOf (stateOf m) i v)
 abbrev pub readOf : Monitor → ℕ → Shown
 readOf m i = shown (Bus.readOf (stateOf m) i)
 
--- "chassis opened": always answered 0
+-- I-3: the chassis was opened, always answered 0
 abbrev pub openedOf : Monitor → Answered
 openedOf m = record { monitor = record { registers = m .registers; latches = openedLatches (m .latches) }; answer = 0 }
 
 abbrev pub sampleOf : Monitor → Sample → Answered
 sampleOf m x = answered (Rule.sampleOf (stateOf m) x)
 
--- "Setting it writes that fan's limit and three divisor bits, and nothing else"
+-- P-5
 abbrev pub setPlanOf : Monitor → ℕ → ℕ → Answered
 setPlanOf m f w = answered (Plan.setPlanOf (stateOf m) f w)
 
--- "Four events: bus write, bus read, sample, chassis opened": any of them
+-- any of the four events: bus write, bus read, sample, chassis opened
 abbrev pub applyOf : Monitor → Event → Shown
 applyOf m e = shown (Replay.applyOf (stateOf m) (e .kind) (e .sample))

@@ -34,13 +34,13 @@ pub struct Monitor {
     pub latches: Latches,
 }
 
-// The monitor after an event, and document 01's answer.
+// The monitor after an event, and the answer.
 pub struct Answered {
     pub monitor: Monitor,
     pub answer: u8,
 }
 
-// The monitor after a read, document 01's answer, and the byte shown.
+// The monitor after a read, the answer, and the byte shown.
 pub struct Shown {
     pub monitor: Monitor,
     pub answer: u8,

@@ -1,4 +1,4 @@
--- The bus accesses, power-on and reset on a state of registers and latches (document 01, "Answer numbers", "Register map").
+-- The bus accesses, power-on and reset on a state of registers and latches (rules A-1, A-2, A-8, M-4 to M-8, I-1).
 use mathlib.Core.Bool.{Bool, _&&_, _||_}
 use mathlib.Core.List.{List, [], _∷_}
 use Prim.Native.Nat.{ℕ}
@@ -28,7 +28,7 @@ powerOn = state powerOnRegisters powerOnLatches
 
 -- ---- a write
 
--- "An accepted write, reset and 46h apart, gives each writable bit the byte's bit; unwritable bits keep their value."
+-- M-4: each writable bit gets the byte's bit, every other keeps its value; M-8: a reset apart
 unfoldable pub writtenRegisters : List ℕ → ℕ → ℕ → List ℕ
 writtenRegisters rs c v = choose (eqb c configuration && isOn v 7) (resetRegisters rs) (changes rs (change c (storedBits c) v ∷ []))
 
@@ -50,7 +50,7 @@ writeOf s i v = writtenAt s (reachOf (s .registers) i) v
 
 -- ---- a read is a look and an effect
 
--- "Reading 41h or 42h returns the byte and clears it, except the chassis bit"
+-- I-1: reading 41h or 42h clears it; the chassis bit is the latch, and stays
 unfoldable pub readRegisters : List ℕ → ℕ → List ℕ
 readRegisters rs c = choose (eqb c interruptStatus1 || eqb c interruptStatus2) (set rs c 0) rs
 

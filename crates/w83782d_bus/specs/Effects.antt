@@ -1,4 +1,4 @@
--- The latches by power-on, reset, a write, a read and a chassis event (document 01, "Register map", "What a sample does").
+-- The latches by power-on, reset, a write, a read and a chassis event (rules M-7, M-8, I-2, I-3, O-3, O-5).
 use mathlib.Core.Bool.{Bool, true, false, _&&_}
 use mathlib.Core.List.{List, [], _∷_}
 use Prim.Native.Nat.{ℕ, _-_}
@@ -29,7 +29,7 @@ resetLatches l = latches (l .chassis) Armed (armed ∷ armed ∷ [])
 
 -- ---- a write
 
--- the chassis latch is "cleared by writing 46h with bit 7"
+-- I-3: the chassis latch is cleared by 46h with bit 7
 unfoldable pub writtenLatches : Latches → ℕ → ℕ → Latches
 writtenLatches l c v =
     choose (eqb c configuration && isOn v 7) (resetLatches l)
@@ -41,13 +41,13 @@ writtenLatches l c v =
 abbrev pub withReleased : Latches → ℕ → Latches
 withReleased l n = latches (l .chassis) (l .sensor1) (set (l .remote) (n - 2) (releasedOf (remoteOf l n)))
 
--- in interrupt mode "reading that bank's 50h releases". decision D-11
+-- O-3: in interrupt mode a read of that sensor's 50h releases. decision D-11
 abbrev pub releases : List ℕ → ℕ → ℕ → Bool
 releases rs c n = eqb c (bankCell n) && isInterrupt rs n
 
 unfoldable pub readLatches : List ℕ → Latches → ℕ → Latches
 readLatches rs l c = choose (releases rs c 2) (withReleased l 2) (choose (releases rs c 3) (withReleased l 3) l)
 
--- ---- a chassis event: "set by a chassis event even in standby". decision D-10
+-- ---- I-3: a chassis event sets the latch, in standby too. decision D-10
 abbrev pub openedLatches : Latches → Latches
 openedLatches l = latches true (l .sensor1) (l .remote)

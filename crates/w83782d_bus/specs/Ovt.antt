@@ -1,4 +1,4 @@
--- The OVT outputs as they are read, and what is claimed of that (document 01, "What a sample does", "Answer numbers").
+-- The OVT outputs as they are read, and what is claimed of that (rules O-1 to O-5, A-7).
 use mathlib.Core.Path.{_≡_}
 use mathlib.Core.Bool.{Bool, _||_}
 use Prim.Native.Nat.{ℕ}
@@ -18,7 +18,7 @@ ovtAnswer Refused = 7
 abbrev pub shownOvt : Bool → Ovt
 shownOvt asserted = choose asserted Asserted Released
 
--- "OVT, for sensors 2 and 3"
+-- sensors 2 and 3 have an output
 abbrev pub hasOvt : ℕ → Bool
 hasOvt n = eqb n 2 || eqb n 3
 

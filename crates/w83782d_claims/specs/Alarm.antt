@@ -22,7 +22,7 @@ use Rattle.w83782d_sample.specs.Sample.{realTimeStatus1, sampleOf}
 use Rattle.w83782d_claims.specs.SampleClaims.{fanBit}
 use Rattle.w83782d_plan.specs.Plan.{fans, fanOf, setPlanOf}
 
--- ---- "Its calls are bus write, bus read, sample, chassis opened and setting a plan"
+-- ---- P-9: the calls
 pub data Call : Type 0 where
   write : (index value : ℕ) → Call
   read : (index : ℕ) → Call
@@ -40,16 +40,16 @@ answerTo s (setPlan f w) = setPlanOf s f w
 
 -- ---- what each is to a plan in force
 
--- "a reset by 40h bit 7"
+-- M-8: a reset by 40h bit 7
 abbrev pub isReset : ℕ → ℕ → Bool
 isReset i v = eqb i 0x40 && isOn v 7
 
--- the cell that an accepted write to an index reaches, where that is one of a plan's: "Index 60h to 7Fh is the same storage as
--- 20h to 3Fh", and 5Dh exists in bank 0 alone
+-- the cell that an accepted write to an index reaches, where that is one of a plan's: 60h to 7Fh are 20h to 3Fh (M-2), and 5Dh
+-- exists in bank 0 alone
 abbrev pub reached : ℕ → ℕ
 reached i = choose (leb 0x60 i) (at (i - 0x40)) (at i)
 
--- "A sample carries for each fan an undivided count u"
+-- S-1: the undivided count of each fan
 abbrev pub undividedOf : Sample → ℕ → ℕ
 undividedOf x f = getD (x .counts) (f - 1) Stored.none .0
 
@@ -62,11 +62,11 @@ kindOf (setPlan f w) = planning f w
 
 -- ---- the monitor
 
--- "Stored counts and real-time bits": the cells of the three fans' counts, 59h and 5Ah
+-- stored counts and real-time bits: the cells of the three fans' counts, 59h and 5Ah
 abbrev pub readingsOf : State → List ℕ
 readingsOf s = map (λ c. getD (s .registers) c 0) (fanCount 1 ∷ fanCount 2 ∷ fanCount 3 ∷ realTimeStatus1 ∷ realTimeStatus2 ∷ [])
 
--- the fan's real-time bit as a bus read of bank 4 shows it: "fan 1, fan 2" in 59h, "fan 3" in 5Ah. decision D-28
+-- the fan's real-time bit as a bus read of bank 4 shows it: fans 1 and 2 in 59h, fan 3 in 5Ah. decision D-28
 abbrev pub realTimeBit : State → ℕ → ℕ
 realTimeBit s f = bit (readOf (writeOf s 0x4E 4 .state) (choose (eqb f 3) 0x5A 0x59) .byte) (fanBit f)
 

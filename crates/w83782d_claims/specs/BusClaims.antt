@@ -39,7 +39,7 @@ remoteIn s n = remoteOf (s .latches) n
 
 -- ---- answers
 
--- 1: "index below 20h or above 7Fh, reserved index, or absent bank"
+-- A-1, span by span
 unfoldable pub answers1 : List Span
 answers1 =
     -- index below 20h or above 7Fh

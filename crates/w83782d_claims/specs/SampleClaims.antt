@@ -1,4 +1,4 @@
--- What is claimed of a sample, from every state of the monitor and for every sample, refused or not (document 01, "What a sample does").
+-- What is claimed of a sample, from every state of the monitor and for every sample, refused or not (rules S-1 to S-10, T, I, O).
 -- The definitions are those that the contracts cite (w83782d_sample: Conditions.antt, Sample.antt; w83782d_readings: Outputs.antt).
 use mathlib.Core.Path.{_≡_}
 use mathlib.Core.Bool.{Bool, true, false, not, _&&_, _||_}
@@ -33,15 +33,15 @@ after s x = sampleOf s x .state
 
 -- ---- answers
 
--- "sensor 2 or 3 outside -256 to 255 half degrees"
+-- A-3
 abbrev pub isBad : Sample → Bool
 isBad x = outside (halvesOf x 2) || outside (halvesOf x 3)
 
--- "sample while 40h bit 0 is 0 or bit 3 is 1"
+-- A-4
 abbrev pub isStandby : State → Bool
 isStandby s = isStopped (cellIn s configuration)
 
--- the whole answer, "3 before 4"; a refused sample leaves everything: "state unchanged"
+-- the whole answer, 3 before 4; a refused sample leaves everything
 pub record Refused (s : State) (x : Sample) : Type 0 where
   pub three : eqb (sampleOf s x .answer) 3 ≡ isBad x
   pub four : eqb (sampleOf s x .answer) 4 ≡ (not (isBad x) && isStandby s)
@@ -68,7 +68,7 @@ pub record Frame (s t : State) : Type 0 where
 
 -- ---- conditions, of the sample's own values under the limits and divisors then set
 
--- a sensor's temperature, over limit and hysteresis, two's complement: "sensor 1 whole degrees; 2 and 3 .. half degrees"
+-- a sensor's temperature, over limit and hysteresis, two's complement: sensor 1 whole degrees, 2 and 3 half degrees
 abbrev pub temperatureOf : Sample → ℕ → ℤ
 temperatureOf x n = choose (eqb n 1) (x .sensor1) (halvesOf x n)
 
@@ -81,18 +81,18 @@ overLimit s n = choose (eqb n 1) (signedOf half8 (cellIn s sensor1Over)) (halves
 abbrev pub hysteresis : State → ℕ → ℤ
 hysteresis s n = choose (eqb n 1) (signedOf half8 (cellIn s sensor1Hysteresis)) (halvesIn s (bankCell n + 3))
 
--- "temperature above its over limit"; below hysteresis
+-- S-6: above its over limit, below its hysteresis
 unfoldable pub isHotter : State → Sample → ℕ → Bool
 isHotter s x n = ltZ (overLimit s n) (temperatureOf x n)
 
 unfoldable pub isColder : State → Sample → ℕ → Bool
 isColder s x n = ltZ (temperatureOf x n) (hysteresis s n)
 
--- "count above its limit", of the count after division
+-- S-7: the count after division is above its limit
 unfoldable pub isSlower : State → Sample → ℕ → Bool
 isSlower s x f = ltb (cellIn s (fanLimit f)) (countOf (s .registers) x f)
 
--- "voltage above high or below low (equal is fine, house)"
+-- house, S-5: above its high or below its low limit; equal is fine
 unfoldable pub isBeside : State → Sample → ℕ → Bool
 isBeside s x i = ltb (cellIn s (highLimit i)) (voltageOf x i) || ltb (voltageOf x i) (cellIn s (lowLimit i))
 
@@ -106,19 +106,19 @@ holdsFor s x chassis = false
 abbrev pub flagAt : (Source → Bool) → List Source → ℕ → ℕ
 flagAt f b j = flagOf (getD (map f b) j false)
 
--- "It stores seven codes, three temperatures and three fan counts": the sample's own, the counts divided
+-- S-1: it stores the sample's own codes, temperatures and counts, the counts divided
 pub record Stores (s : State) (x : Sample) : Type 0 where
   pub codes : (i : ℕ) → i < 7 → cellIn (after s x) (voltage i) ≡ voltageOf x i
   pub sensor1 : signedOf half8 (cellIn (after s x) sensor1Value) ≡ x .sensor1
   pub remote : (n : ℕ) → 2 ≤ n → n ≤ 3 → halvesIn (after s x) (bankCell n) ≡ halvesOf x n
   pub counts : (f : ℕ) → 1 ≤ f → f ≤ 3 → cellIn (after s x) (fanCount f) ≡ countOf (s .registers) x f
 
--- "sets the real-time bits": after an accepted sample each is its condition (bit 4 of 5Ah is stored as 0, and read as the latch)
+-- S-9: after an accepted sample each real-time bit is its condition (bit 4 of 5Ah is stored as 0, and read as the latch)
 pub record RealTime (s : State) (x : Sample) : Type 0 where
   pub first : (j : ℕ) → bit (cellIn (after s x) realTimeStatus1) j ≡ flagAt (holdsFor s x) firstByte j
   pub second : (j : ℕ) → bit (cellIn (after s x) realTimeStatus2) j ≡ flagAt (holdsFor s x) secondByte j
 
--- where a fan's real-time bit stands: "fan 1, fan 2" in 59h, "fan 3" in 5Ah
+-- where a fan's real-time bit is: fans 1 and 2 in 59h, fan 3 in 5Ah
 abbrev pub fanCell : ℕ → ℕ
 fanCell f = choose (eqb f 3) realTimeStatus2 realTimeStatus1
 
@@ -129,7 +129,7 @@ fanBit f = choose (eqb f 3) 3 (5 + f)
 abbrev pub FanRings : State → Sample → Type 0
 FanRings s x = (f : ℕ) → 1 ≤ f → f ≤ 3 → bit (cellIn (after s x) (fanCell f)) (fanBit f) ≡ flagOf (ltb (cellIn s (fanLimit f)) (countOf (s .registers) x f))
 
--- ---- "then latches status"
+-- ---- status
 
 -- one step of a sensor's status mark and of its OVT output, each from the mark that it has
 unfoldable pub statusFor : State → Sample → ℕ → Status
@@ -138,7 +138,7 @@ statusFor s x n = statusOf (statusMode (s .registers) n) (markOf (s .latches) n)
 unfoldable pub outputFor : State → Sample → ℕ → Output
 outputFor s x n = outputOf (outputMode (s .registers) n) (remoteOf (s .latches) n .output) (isHotter s x n) (isColder s x n)
 
--- "Voltages and fans latch their bit at each sample where the condition holds", temperatures by their step, and no sample the chassis
+-- S-9: voltages and fans latch where their condition is true, temperatures by their step, and no sample the chassis
 abbrev pub latchesFor : State → Sample → Source → Bool
 latchesFor s x (rail i) = isBeside s x i
 latchesFor s x (sensor n) = statusFor s x n .latched
@@ -162,12 +162,12 @@ pub record LatchesAfter (s : State) (x : Sample) : Type 0 where
 abbrev pub smiIn : State → Bool
 smiIn s = smiOf (s .registers) (s .latches .chassis)
 
--- "an unmasked bit of 41h or 42h is set", as a read shows them
+-- a bit of 41h or 42h, as a read shows them, that is set and not masked
 pub data UnmaskedBit (s : State) : Type 0 where
   in41h : (j : ℕ) → j < 8 → bit (shownIn s interruptStatus1) j ≡ 1 → bit (cellIn s smiMask1) j ≡ 0 → UnmaskedBit s
   in42h : (j : ℕ) → j < 8 → bit (shownIn s interruptStatus2) j ≡ 1 → bit (cellIn s smiMask2) j ≡ 0 → UnmaskedBit s
 
--- "SMI is asserted exactly when 40h bit 1 is 1, bit 3 is 0, and an unmasked bit of 41h or 42h is set."
+-- I-4
 pub record Asserts (s : State) : Type 0 where
   pub enabled : bit (cellIn s configuration) 1 ≡ 1
   pub running : bit (cellIn s configuration) 3 ≡ 0
@@ -176,7 +176,7 @@ pub record Asserts (s : State) : Type 0 where
 abbrev pub SmiExactly : State → Type 0
 SmiExactly s = (smiIn s ≡ true) ↔ Asserts s
 
--- "Clearing 40h bit 0 stops samples and doesn't clear SMI.": the byte that a read of 40h shows is written back with bit 0 cleared
+-- I-5: the byte that a read of 40h shows is written back with bit 0 cleared
 abbrev pub standbyOf : State → Written
 standbyOf s = writeOf s 0x40 (bitAnd (shownIn s configuration) 0b1111_1110)
 
@@ -188,7 +188,7 @@ pub record Standby (s : State) : Type 0 where
   pub stops : isStandby (standbyOf s .state) ≡ true
   pub smi : smiIn (standbyOf s .state) ≡ smiIn s
 
--- ---- "Register bits listed below without a rule are stored only."
+-- ---- M-9: bits without a rule are stored only
 
 -- the bits of a register that no rule names
 unfoldable pub ruleless : ℕ → ℕ

@@ -1,4 +1,4 @@
--- What an access to a cell answers and what a write to it stores (document 01, "Register map", "Answer numbers").
+-- What an access to a cell answers and what a write to it stores (rules A-1, A-2, M-4, M-5).
 use mathlib.Core.Bool.{_||_}
 use Prim.Native.Nat.{ℕ}
 use lib.Bits.{bitAnd}
@@ -8,7 +8,7 @@ use Rattle.w83782d_map.specs.Map.{presentAt, writableAt, configuration, 
 
 -- ---- answers: 1 before 2
 
--- 1: "index below 20h or above 7Fh, reserved index, or absent bank"; 2: "write to a read-only register"
+-- A-1: no register there; A-2: no bit of it can be written
 unfoldable pub writeAnswer : ℕ → ℕ
 writeAnswer c = choose (presentAt c) (choose (eqb (writableAt c) 0) 2 0) 1
 

@@ -1,4 +1,4 @@
--- Setting a plan on a state (document 01, "Planning a fan alarm").
+-- Setting a plan on a state (rule P-5).
 use Prim.Native.Nat.{ℕ}
 use Rattle.bits.specs.Bits.{choose, isBeyond}
 use Rattle.in_force.specs.Settings.{Fan, fanAt, plannedRegisters}
@@ -8,14 +8,14 @@ use Rattle.w83782d_bus.specs.Bus.{State, state, Written, written}
 use Rattle.w83782d_sample.specs.Conditions.{fanLimit}
 use Rattle.w83782d_sample.specs.Stored.{divisorPlaces}
 
--- "that fan's limit and three divisor bits"
+-- how many fans, and where the limit and the three divisor bits of each are
 abbrev pub fans : ℕ
 fans = 3
 
 abbrev pub fanOf : ℕ → Fan
 fanOf f = fanAt (fanLimit f) (divisorPlaces f)
 
--- "whatever bank is selected and whether or not samples are stopped"; 7 before 6, refused: "state unchanged"
+-- whatever bank is selected, and whether or not samples are stopped; A-7 before A-6, refused with the state as it was
 unfoldable pub setPlanOf : State → ℕ → ℕ → Written
 setPlanOf s f w =
     choose (isBeyond fans f) (written s 7)

@@ -1,5 +1,4 @@
--- What is claimed of the readings, of every slice and every stored byte (document 01, "Answer numbers"; decisions D-01,
--- D-24).
+-- What is claimed of the readings, of every slice and every stored byte (rules A-7, A-8; decisions D-01, D-24).
 -- The definitions are those that the contracts cite (Readings.antt).
 use mathlib.Core.Path.{_≡_}
 use mathlib.Core.List.{List}
@@ -20,7 +19,7 @@ sizedAnswer rs a = choose (fits rs) a 8
 abbrev pub answerTo : ℕ → ℕ → ℕ
 answerTo last n = choose (isBeyond last n) 7 0
 
--- the whole answer, 8 before 7; refused: "reading 0"
+-- the whole answer, 8 before 7; what is refused reads 0
 pub record ReadingClaims : Type 0 where
   pub voltage : (rs : List ℕ) (n r5 r6 : ℕ) → readingAnswer (voltageOf rs n r5 r6) ≡ sizedAnswer rs (answerFor n r5 r6)
   pub no-voltage : (rs : List ℕ) (n r5 r6 : ℕ)

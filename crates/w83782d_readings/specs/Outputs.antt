@@ -1,4 +1,4 @@
--- SMI and standing alarms (document 01, "What a sample does"), from the bytes that reads show.
+-- SMI and standing alarms, from the bytes that reads show (rules I-2, I-4 to I-6).
 use mathlib.Core.Bool.{Bool, not, _&&_}
 use mathlib.Core.List.{List}
 use Prim.Native.Nat.{ℕ, _+_, _-_}
@@ -18,7 +18,7 @@ smiMask1 = at 0x43
 abbrev pub smiMask2 : ℕ
 smiMask2 = at 0x44
 
--- 41h and 42h as a read shows them: "the chassis bit .. there .. is the latch itself"
+-- 41h and 42h as a read shows them, the chassis bit being the latch
 abbrev pub status1 : List ℕ → ℕ
 status1 rs = getD rs interruptStatus1 0
 
@@ -29,14 +29,14 @@ status2 rs chassis = withChassis (getD rs interruptStatus2 0) chassis
 abbrev pub unmasked : ℕ → ℕ → ℕ
 unmasked status mask = bitAnd status (255 - mask)
 
--- "SMI is asserted exactly when 40h bit 1 is 1, bit 3 is 0, and an unmasked bit of 41h or 42h is set."
+-- I-4: 40h bit 1 is 1, bit 3 is 0, and an unmasked bit of 41h or 42h is set
 unfoldable pub smiOf : List ℕ → Bool → Bool
 smiOf rs chassis =
     isOn (getD rs configuration 0) 1
     && not (isOn (getD rs configuration 0) 3)
     && not (eqb (bitOr (unmasked (status1 rs) (getD rs smiMask1 0)) (unmasked (status2 rs chassis) (getD rs smiMask2 0))) 0)
 
--- "The number of standing alarms is the count of set bits in 41h and 42h."
+-- I-6: the set bits of 41h and 42h
 unfoldable pub standingAlarms : List ℕ → Bool → ℕ
 standingAlarms rs chassis = ones (status1 rs) + ones (status2 rs chassis)
 

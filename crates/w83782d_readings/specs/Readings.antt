@@ -1,4 +1,4 @@
--- Readings of the stored values (document 01, "Readings").
+-- Readings of the stored values (rules R-1 to R-4).
 use mathlib.Core.List.{List}
 use Prim.Native.Nat.{ℕ, _+_}
 use lib.Dec.{eqb}
@@ -27,7 +27,7 @@ temperatureAnswer (temperature.HalfDegrees z) = 0
 temperatureAnswer temperature.Refused = 7
 temperatureAnswer temperature.WrongLength = 8
 
--- the half degrees that are read; refused: "reading 0"
+-- the half degrees that are read; refused: 0
 abbrev pub temperatureValue : Temperature → ℤ
 temperatureValue (temperature.HalfDegrees z) = z
 temperatureValue temperature.Refused = pos 0
@@ -39,7 +39,7 @@ dutyAnswer (duty.Parts n) = 0
 dutyAnswer duty.Refused = 7
 dutyAnswer duty.WrongLength = 8
 
--- the parts that are read; refused: "reading 0"
+-- the parts that are read; refused: 0
 abbrev pub dutyValue : Duty → ℕ
 dutyValue (duty.Parts n) = n
 dutyValue duty.Refused = 0
@@ -51,7 +51,7 @@ dutyValue duty.WrongLength = 0
 abbrev pub voltageAt : List ℕ → ℕ → ℕ → ℕ → Reading
 voltageAt rs channel r5 r6 = millivoltsOf channel (getD rs (voltage channel) 0) r5 r6
 
--- "Speed takes the stored count and the divisor now set"; a fan other than 1 to 3 is answered 7
+-- R-2: by the stored count and the divisor now set; a fan other than 1 to 3 is answered 7
 unfoldable pub speedAt : List ℕ → ℕ → Speed
 speedAt rs f =
     choose (isBeyond 3 f) speed.Refused
@@ -69,7 +69,7 @@ temperatureAt rs n =
     (choose (eqb n 3) (temperature.HalfDegrees (halfDegrees (getD rs (bankCell 3) 0) (getD rs (bankCell 3 + 1) 0)))
     temperature.Refused))
 
--- "PWM byte x is on for x of 256 parts": outputs 1 to 4 are 5Bh, 5Ah, 5Eh, 5Fh
+-- R-3: outputs 1 to 4 are 5Bh, 5Ah, 5Eh, 5Fh
 unfoldable pub dutyAt : List ℕ → ℕ → Duty
 dutyAt rs n =
     choose (eqb n 1) (duty.Parts (pwmParts (getD rs (at 0x5B) 0)))

@@ -1,5 +1,5 @@
--- The conditions and the modes that a sample looks at, of the registers with the readings stored (document 01, "What a sample
--- does"). Rails are numbered 0 to 6, sensors and fans 1 to 3.
+-- The conditions and the modes that a sample looks at, of the registers with the readings stored (rules S-5 to S-7, T-4, T-5, O-1).
+-- Rails are numbered 0 to 6, sensors and fans 1 to 3.
 use mathlib.Core.Bool.{Bool, true, false, not, _||_}
 use mathlib.Core.List.{List, [], _∷_}
 use Prim.Native.Nat.{ℕ, _+_, _*_}
@@ -17,7 +17,7 @@ use Rattle.w83782d_sample.specs.declared.conditions.Stand.{Stand}
 use Rattle.w83782d_sample.specs.declared.conditions.Compared.{Compared}
 
 -- ---- the limits of a rail, a sensor and a fan, and cells that name modes
--- "high, low limit of each voltage in that order", from 2Bh
+-- high and low limit of each voltage, from 2Bh
 abbrev pub highLimit : ℕ → ℕ
 highLimit i = at 0x2B + 2 * i
 
@@ -38,7 +38,7 @@ ovtProperty = at 0x4C
 
 -- ---- conditions, of the registers with the readings stored
 
--- "voltage above high or below low (equal is fine, house)"
+-- house, S-5: above its high or below its low limit; equal is fine
 unfoldable pub isOutside : List ℕ → ℕ → Bool
 isOutside rs i = ltb (getD rs (highLimit i) 0) (getD rs (voltage i) 0) || ltb (getD rs (voltage i) 0) (getD rs (lowLimit i) 0)
 
@@ -56,14 +56,14 @@ aboveAt rs c = ltb (halfLevelAt rs (c + 5)) (halfLevelAt rs c)
 abbrev pub belowAt : List ℕ → ℕ → Bool
 belowAt rs c = ltb (halfLevelAt rs c) (halfLevelAt rs (c + 3))
 
--- "temperature above its over limit"
+-- S-6: above its over limit
 unfoldable pub isAbove : List ℕ → ℕ → Bool
 isAbove rs n = choose (eqb n 1) (ltb (wholeLevelAt rs sensor1Over) (wholeLevelAt rs sensor1Value)) (aboveAt rs (bankCell n))
 
 unfoldable pub isBelow : List ℕ → ℕ → Bool
 isBelow rs n = choose (eqb n 1) (ltb (wholeLevelAt rs sensor1Value) (wholeLevelAt rs sensor1Hysteresis)) (belowAt rs (bankCell n))
 
--- "count above its limit"
+-- S-7
 unfoldable pub isSlow : List ℕ → ℕ → Bool
 isSlow rs f = overLimit (getD rs (fanCount f) 0) (getD rs (fanLimit f) 0)
 
@@ -72,7 +72,7 @@ abbrev pub modeIf : Bool → Mode
 modeIf true = Comparator
 modeIf false = Interrupt
 
--- "Sensor 1 is in comparator mode when 3Ah is 127, else two-times. For sensors 2 and 3 it is 4Ch bit 6", at 1 comparator (section 7.16)
+-- T-4: sensor 1 is in comparator mode when 3Ah is 127; T-5: sensors 2 and 3 when 4Ch bit 6 is 1
 unfoldable pub statusMode : List ℕ → ℕ → Mode
 statusMode rs n = choose (eqb n 1) (modeIf (eqb (getD rs sensor1Hysteresis 0) 127)) (modeIf (isOn (getD rs ovtProperty 0) 6))
 

@@ -1,4 +1,4 @@
--- What a sample does with what it stores (document 01). Rails are numbered 0 to 6, sensors and fans 1 to 3.
+-- What a sample does with what it stores (rules S-8 to S-10, T-1 to T-6, O-2 to O-4). Rails are numbered 0 to 6, sensors and fans 1 to 3.
 use mathlib.Core.Bool.{Bool, false}
 use mathlib.Core.List.{List, [], _∷_, map}
 use Prim.Native.Nat.{ℕ}
@@ -36,11 +36,11 @@ pub data Source : Type 0 where
   fan : ℕ → Source
   chassis : Source
 
--- "Bits of 41h and of real-time 59h, from 0: VCOREA, VINR0, +3.3, +5, sensor 1, sensor 2, fan 1, fan 2."
+-- S-8: 41h and real-time 59h, from bit 0
 abbrev pub firstByte : List Source
 firstByte = rail 0 ∷ rail 1 ∷ rail 2 ∷ rail 3 ∷ sensor 1 ∷ sensor 2 ∷ fan 1 ∷ fan 2 ∷ []
 
--- "Of 42h and 5Ah: +12, -12, -5, fan 3, chassis, sensor 3."
+-- S-8: 42h and real-time 5Ah
 abbrev pub secondByte : List Source
 secondByte = rail 4 ∷ rail 5 ∷ rail 6 ∷ fan 3 ∷ chassis ∷ sensor 3 ∷ []
 
@@ -51,7 +51,7 @@ condition rs (sensor n) = isAbove rs n
 condition rs (fan f) = isSlow rs f
 condition rs chassis = false
 
--- what a sample latches: "Voltages and fans latch their bit at each sample where the condition holds", temperatures by their step
+-- S-9, what a sample latches: voltages and fans where their condition is true, temperatures by their step
 abbrev pub latchedBy : List ℕ → Latches → Source → Bool
 latchedBy rs l (rail i) = isOutside rs i
 latchedBy rs l (sensor n) = statusAt rs l n .latched
@@ -85,7 +85,7 @@ remoteAfter rs l n = remote (statusAt rs l n .mark) (outputAt rs l n)
 unfoldable pub steppedLatches : List ℕ → Latches → Latches
 steppedLatches rs l = latches (l .chassis) (statusAt rs l 1 .mark) (remoteAfter rs l 2 ∷ remoteAfter rs l 3 ∷ [])
 
--- ---- the sample, with its refusals in order: "3 before 4"
+-- ---- the sample, with its refusals in order
 
 abbrev pub sampledState : State → Sample → State
 sampledState s x =

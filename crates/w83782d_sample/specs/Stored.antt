@@ -1,4 +1,4 @@
--- What a sample stores and when it is refused (document 01, "What a sample does"). Rails are numbered 0 to 6, sensors and fans 1 to 3.
+-- What a sample stores and when it is refused (rules S-1 to S-4, A-3, A-4). Rails are numbered 0 to 6, sensors and fans 1 to 3.
 use mathlib.Core.Bool.{Bool, not, _||_}
 use mathlib.Core.List.{List, [], _∷_, _++_, map}
 use Prim.Native.Nat.{ℕ, _+_, _-_}
@@ -27,7 +27,7 @@ fanCount f = at 0x27 + f
 abbrev pub sensor1Value : ℕ
 sensor1Value = at 0x27
 
--- ---- a fan's divisor: "fan 2 divisor 7-6, fan 1 divisor 5-4" of 47h, "fan 3 divisor 7-6" of 4Bh, "divisor top bits: fan 3, 2, 1 in 7, 6, 5" of 5Dh
+-- ---- S-2: a fan's divisor: fan 1 in 47h 5-4, fan 2 in 47h 7-6, fan 3 in 4Bh 7-6, the top bits in 5Dh 5, 6, 7
 abbrev pub place : ℕ → Bit → Place
 place c b = record { cell = c; bit = b }
 
@@ -53,7 +53,7 @@ abbrev pub puts : List ℕ → List Store → List ℕ
 puts rs [] = rs
 puts rs (w ∷ ws) = puts (set rs (w .cell) (w .byte)) ws
 
--- ---- the readings that a sample stores, whole bytes: "seven codes, three temperatures and three fan counts". decision D-46
+-- ---- S-1: the readings that a sample stores, whole bytes. decision D-46
 abbrev pub voltageOf : Sample → ℕ → ℕ
 voltageOf x i = getD (x .codes) i 0
 
@@ -63,7 +63,7 @@ halvesOf x n = getD (x .remote) (n - 2) (pos 0)
 abbrev pub none : Undivided
 none = record { 0 = 0 }
 
--- "the stored count is u divided by the divisor, rounded down, at most 255"
+-- S-3
 abbrev pub countOf : List ℕ → Sample → ℕ → ℕ
 countOf rs x f = storedOf (getD (x .counts) (f - 1) none .0) (valueOf (divisorOf rs f))
 
@@ -73,7 +73,7 @@ rails = 0 ∷ 1 ∷ 2 ∷ 3 ∷ 4 ∷ 5 ∷ 6 ∷ []
 abbrev pub fans : List ℕ
 fans = 1 ∷ 2 ∷ 3 ∷ []
 
--- "nine bits, high byte and bit 7 of the low byte, in half degrees"
+-- S-4: nine bits, in two bytes
 abbrev pub halves : Sample → ℕ → List Store
 halves x n = (bankCell n ≔ halfHigh (halfCodeOf (halvesOf x n))) ∷ ((bankCell n + 1) ≔ halfLow (halfCodeOf (halvesOf x n))) ∷ []
 
@@ -88,13 +88,13 @@ readings rs x =
 unfoldable pub storedReadings : List ℕ → Sample → List ℕ
 storedReadings rs x = puts rs (readings rs x)
 
--- ---- the refusals, in order: "3 before 4"
+-- ---- the refusals, 3 before 4
 
--- 4: "sample while 40h bit 0 is 0 or bit 3 is 1"
+-- A-4: 40h bit 0 is 0, or bit 3 is 1
 abbrev pub isStopped : ℕ → Bool
 isStopped c = not (isOn c 0) || isOn c 3
 
--- and 3: "sample with sensor 2 or 3 outside -256 to 255 half degrees"
+-- A-3, then A-4
 unfoldable pub sampleAnswer : List ℕ → Sample → ℕ
 sampleAnswer rs x =
     choose (outside (halvesOf x 2)) 3

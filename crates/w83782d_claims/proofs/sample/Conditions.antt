@@ -209,7 +209,7 @@ module _ (s : State) (x : Sample) (w : length (s .registers) ≡ cells) (a : sam
         counts = counts;
       }
 
-  -- "fan 1, fan 2" are bits 6 and 7 of the first byte, "fan 3" bit 3 of the second
+  -- fans 1 and 2 are bits 6 and 7 of the first byte, fan 3 bit 3 of the second
   pub fan-rings : FanRings s x
   unfolding isSlower
   fan-rings zero h k = absurd (omega arith)

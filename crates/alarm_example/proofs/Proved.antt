@@ -23,7 +23,7 @@ use Rattle.fan.specs.declared.planner.Planned.{Planned}
 use Rattle.fan.specs.declared.planner.Planned.the-variants.{Plan, Refused}
 use Rattle.fan.proofs.planner.Planning.{plan-of-is}
 use Rattle.in_force.specs.Chip.{reset, writing, Whole}
-use Rattle.in_force.specs.Laws.{Keeps, Stores, Leaves, Answers, Takes, ChipLaws}
+use Rattle.in_force.specs.Laws.{Keeps, Stores, Leaves, AnsweredAs, Takes, ChipLaws}
 use Rattle.in_force.proofs.Instances.{isOf, keeps-cells, within, isWide, all-wide, bus-write}
 use Rattle.in_force.proofs.Chips.{every-chip}
 use Rattle.alarm_example.specs.Machine.{State, state, fanOf, maskAt, powerOn, Call, write, look, sample, setPlan, putBack, countOf, isReset, slow, back, registersAfter, answerTo, looksAfter, after, kindOf, machine, AlarmRings}
@@ -124,8 +124,8 @@ leaves s (putBack x y k₁ k₂) w a = puts-back (s .registers) x y k₁ k₂
 accepted : (s : State) (c : Call) → Whole machine s → answerTo s c ≡ 0 → Leaves machine s (after s c) (kindOf c)
 accepted s c w a = rw (done s c a) (leaves s c w a)
 
-answered : (s : State) (c : Call) → Answers machine (answerTo s c) (kindOf c)
-answered s (write k v) = choose-ind (Answers machine (answerTo s (write k v))) (isReset k v) reset (writing (change k 0xFF v ∷ [])) (λ _. tt) (λ _. tt)
+answered : (s : State) (c : Call) → AnsweredAs machine (answerTo s c) (kindOf c)
+answered s (write k v) = choose-ind (AnsweredAs machine (answerTo s (write k v))) (isReset k v) reset (writing (change k 0xFF v ∷ [])) (λ _. tt) (λ _. tt)
 answered s look = tt
 answered s (sample a b) = tt
 answered s (setPlan f w) = rw (plan-of-is w .answer)

@@ -61,5 +61,5 @@ abbrev pub answerFor : ℕ → ℕ → ℕ → ℕ
 answerFor channel r5 r6 = choose (ltb 6 channel || ltb 4 channel && not (isResistor r5 && isResistor r6)) 7 0
 
 -- a reading is refused exactly when the answer table says so
-pub record Answers : Type 0 where
+pub record VoltageAnswers : Type 0 where
   pub exactly : (channel c r5 r6 : ℕ) → readingAnswer (millivoltsOf channel c r5 r6) ≡ answerFor channel r5 r6

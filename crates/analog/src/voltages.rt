@@ -2,7 +2,7 @@
 ghost use mathlib.Core.Path.{_≡_};
 ghost use Prim.Native.Nat.{_^_, _<_};
 ghost use lib.IntN.{pos, _-ℤ_};
-ghost use Rattle.analog.specs.Readings.{nearestZ, isResistor, railOf, millivoltsOf, Answers};
+ghost use Rattle.analog.specs.Readings.{nearestZ, isResistor, railOf, millivoltsOf, VoltageAnswers};
 use rounding::rounded;
 
 // The largest resistor that is taken, in kilo-ohm.
@@ -67,7 +67,7 @@ fn rail(code: u8, r5: u32, r6: u32) -> Reading
 
 // The millivolts of a code on a channel: VCOREA, VINR0, +3.3, +5, +12, -12, -5 from 0. The resistors count for the last two only.
 pub fn millivolts(channel: u8, code: u8, r5: u32, r6: u32) -> Reading
-    ensures { λ r. ⌜ (r ≡ millivoltsOf channel code r5 r6) × Answers ⌝ }
+    ensures { λ r. ⌜ (r ≡ millivoltsOf channel code r5 r6) × VoltageAnswers ⌝ }
 {
     let c = code as u32;
     match channel {

@@ -24,5 +24,5 @@ speedValue Refused = 0
 speedValue WrongLength = 0
 
 -- R-2: 1,350,000 / (count x divisor), nearest, halves up; count 0 is too fast, 255 too slow
-unfoldable pub speedOf : ℕ → ℕ → Speed
-speedOf count d = choose (eqb count 0) TooFast (choose (eqb count 255) TooSlow (Rpm (nearest perMinute (count * d))))
+unfoldable pub countSpeed : ℕ → ℕ → Speed
+countSpeed count d = choose (eqb count 0) TooFast (choose (eqb count 255) TooSlow (Rpm (nearest perMinute (count * d))))

@@ -4,7 +4,7 @@ ghost use Prim.Native.Nat.{_<_, _%_, _^_};
 ghost use Rattle.fan.specs.Count.{exponentOf, valueOf, fromBits, storedOf, overLimit};
 ghost use Rattle.bits.specs.Fields.{placesOf};
 ghost use Rattle.fan.specs.Divisors.{divisorAt, withDivisor, Fields};
-ghost use Rattle.fan.specs.Speed.{speedOf};
+ghost use Rattle.fan.specs.Speed.{countSpeed};
 
 pub mod planner;
 
@@ -129,7 +129,7 @@ pub fn rings(count: Divided, limit: u8) -> bool
 impl Divided {
     // The speed that a stored count and the divisor now set say; never refused.
     pub fn speed(self, divisor: Divisor) -> Speed
-        ensures { λ r. ⌜ r ≡ speedOf (self .0) (valueOf divisor) ⌝ }
+        ensures { λ r. ⌜ r ≡ countSpeed (self .0) (valueOf divisor) ⌝ }
     {
         let count = self.0;
         if count == 0 {

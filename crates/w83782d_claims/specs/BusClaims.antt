@@ -63,7 +63,7 @@ answers1 =
 
 -- the whole answer: 1 exactly where listed, before 2; a write is answered 2 exactly when the register exists and has no
 -- writable bit; a read never
-pub record Answers (s : State) (i v : ℕ) : Type 0 where
+pub record AccessAnswers (s : State) (i v : ℕ) : Type 0 where
   pub write1 : eqb (writeOf s i v .answer) 1 ≡ among answers1 (bankOf (s .registers)) i
   pub read1 : eqb (readOf s i .answer) 1 ≡ among answers1 (bankOf (s .registers)) i
   pub write2 : eqb (writeOf s i v .answer) 2 ≡ (presentAt (reachOf (s .registers) i) && eqb (writableAt (reachOf (s .registers) i)) 0)
@@ -71,7 +71,7 @@ pub record Answers (s : State) (i v : ℕ) : Type 0 where
   pub no-other-read : readOf s i .answer < 2
 
 -- a refused access leaves the whole state, and shows 0
-pub record Refused (s : State) (i v : ℕ) : Type 0 where
+pub record RefusedAccess (s : State) (i v : ℕ) : Type 0 where
   pub write : writeOf s i v .answer ≢ 0 → writeOf s i v .state ≡ s
   pub read : readOf s i .answer ≢ 0 → readOf s i .state ≡ s
   pub byte : readOf s i .answer ≢ 0 → readOf s i .byte ≡ 0
@@ -188,8 +188,8 @@ pub record ShownBytes (s : State) : Type 0 where
 
 -- ---- all of it, of one write, of one read and of a chassis event
 pub record WriteClaims (s : State) (i v : ℕ) : Type 0 where
-  pub answers : Answers s i v
-  pub refused : Refused s i v
+  pub answers : AccessAnswers s i v
+  pub refused : RefusedAccess s i v
   pub alias : Alias s i v
   pub unbanked : Unbanked i
   pub selected : BankSelected s v
@@ -200,8 +200,8 @@ pub record WriteClaims (s : State) (i v : ℕ) : Type 0 where
 
 pub record ReadClaims (s : State) (i : ℕ) : Type 0 where
   -- of both accesses at that index, whatever byte a write has
-  pub answers : (v : ℕ) → Answers s i v
-  pub refused : (v : ℕ) → Refused s i v
+  pub answers : (v : ℕ) → AccessAnswers s i v
+  pub refused : (v : ℕ) → RefusedAccess s i v
   pub alias : (v : ℕ) → Alias s i v
   pub leaves : ReadLeaves s i
   pub shown : ShownBytes s

@@ -6,7 +6,7 @@ use lib.IntN.{ℤ, pos, negℤ}
 use lib.ListN.{length}
 use Rattle.fan.specs.Plan.{planAnswer, planDivisor, planLimit}
 use Rattle.fan.specs.Search.{planOf}
-use Rattle.fan.specs.Speed.{speedAnswer, speedValue, speedOf}
+use Rattle.fan.specs.Speed.{speedAnswer, speedValue, countSpeed}
 use Rattle.analog.specs.Readings.{readingAnswer, readingValue, millivoltsOf}
 
 -- what is asked: a plan for w rpm, the speed of a count and a divisor, the millivolts of a channel, a code and two resistors
@@ -37,7 +37,7 @@ minus12 = 5
 abbrev pub tells : Question → Told
 tells (plan w) =
     record { answer = planAnswer (planOf w); values = pos (planDivisor (planOf w)) ∷ pos (planLimit (planOf w)) ∷ [] }
-tells (speed count d) = record { answer = speedAnswer (speedOf count d); values = pos (speedValue (speedOf count d)) ∷ [] }
+tells (speed count d) = record { answer = speedAnswer (countSpeed count d); values = pos (speedValue (countSpeed count d)) ∷ [] }
 tells (volts channel c r5 r6) =
     record { answer = readingAnswer (millivoltsOf channel c r5 r6); values = readingValue (millivoltsOf channel c r5 r6) ∷ [] }
 

@@ -22,7 +22,7 @@ use Rattle.w83782d_bus.specs.Registers.{reachOf}
 use Rattle.w83782d_bus.specs.Effects.{remoteOf}
 use Rattle.w83782d_bus.specs.Bus.{State, Written, writeOf, readOf}
 use Rattle.w83782d_claims.specs.BusClaims.{Whole, cellIn, shownIn}
-use Rattle.w83782d_sample.specs.Stored.{voltage, fanCount, sensor1Value, voltageOf, halvesOf, countOf, isStopped}
+use Rattle.w83782d_sample.specs.Stored.{voltage, fanCount, sensor1Value, sampledCode, sampledHalves, storedCount, isStopped}
 use Rattle.w83782d_sample.specs.Conditions.{highLimit, lowLimit, fanLimit, sensor1Over, sensor1Hysteresis, ovtProperty, statusMode, outputMode}
 use Rattle.w83782d_sample.specs.Sample.{Source, firstByte, secondByte, realTimeStatus1, markOf, sampleOf}
 use Rattle.w83782d_sample.specs.Sample.Source.{rail, sensor, fan, chassis}
@@ -35,14 +35,14 @@ after s x = sampleOf s x .state
 
 -- A-3
 abbrev pub isBad : Sample → Bool
-isBad x = outside (halvesOf x 2) || outside (halvesOf x 3)
+isBad x = outside (sampledHalves x 2) || outside (sampledHalves x 3)
 
 -- A-4
 abbrev pub isStandby : State → Bool
 isStandby s = isStopped (cellIn s configuration)
 
 -- the whole answer, 3 before 4; a refused sample leaves everything
-pub record Refused (s : State) (x : Sample) : Type 0 where
+pub record RefusedSample (s : State) (x : Sample) : Type 0 where
   pub three : eqb (sampleOf s x .answer) 3 ≡ isBad x
   pub four : eqb (sampleOf s x .answer) 4 ≡ (not (isBad x) && isStandby s)
   pub accepted : eqb (sampleOf s x .answer) 0 ≡ (not (isBad x) && not (isStandby s))
@@ -69,32 +69,32 @@ pub record Frame (s t : State) : Type 0 where
 -- ---- conditions, of the sample's own values under the limits and divisors then set
 
 -- a sensor's temperature, over limit and hysteresis, two's complement: sensor 1 whole degrees, 2 and 3 half degrees
-abbrev pub temperatureOf : Sample → ℕ → ℤ
-temperatureOf x n = choose (eqb n 1) (x .sensor1) (halvesOf x n)
+abbrev pub sampledTemperature : Sample → ℕ → ℤ
+sampledTemperature x n = choose (eqb n 1) (x .sensor1) (sampledHalves x n)
 
 abbrev pub halvesIn : State → ℕ → ℤ
 halvesIn s c = signedOf half9 (nineBits (cellIn s c) (cellIn s (c + 1)))
 
-abbrev pub overLimit : State → ℕ → ℤ
-overLimit s n = choose (eqb n 1) (signedOf half8 (cellIn s sensor1Over)) (halvesIn s (bankCell n + 5))
+abbrev pub sensorLimit : State → ℕ → ℤ
+sensorLimit s n = choose (eqb n 1) (signedOf half8 (cellIn s sensor1Over)) (halvesIn s (bankCell n + 5))
 
 abbrev pub hysteresis : State → ℕ → ℤ
 hysteresis s n = choose (eqb n 1) (signedOf half8 (cellIn s sensor1Hysteresis)) (halvesIn s (bankCell n + 3))
 
 -- S-6: above its over limit, below its hysteresis
 unfoldable pub isHotter : State → Sample → ℕ → Bool
-isHotter s x n = ltZ (overLimit s n) (temperatureOf x n)
+isHotter s x n = ltZ (sensorLimit s n) (sampledTemperature x n)
 
 unfoldable pub isColder : State → Sample → ℕ → Bool
-isColder s x n = ltZ (temperatureOf x n) (hysteresis s n)
+isColder s x n = ltZ (sampledTemperature x n) (hysteresis s n)
 
 -- S-7: the count after division is above its limit
 unfoldable pub isSlower : State → Sample → ℕ → Bool
-isSlower s x f = ltb (cellIn s (fanLimit f)) (countOf (s .registers) x f)
+isSlower s x f = ltb (cellIn s (fanLimit f)) (storedCount (s .registers) x f)
 
 -- house, S-5: above its high or below its low limit; equal is fine
 unfoldable pub isBeside : State → Sample → ℕ → Bool
-isBeside s x i = ltb (cellIn s (highLimit i)) (voltageOf x i) || ltb (voltageOf x i) (cellIn s (lowLimit i))
+isBeside s x i = ltb (cellIn s (highLimit i)) (sampledCode x i) || ltb (sampledCode x i) (cellIn s (lowLimit i))
 
 abbrev pub holdsFor : State → Sample → Source → Bool
 holdsFor s x (rail i) = isBeside s x i
@@ -108,10 +108,10 @@ flagAt f b j = flagOf (getD (map f b) j false)
 
 -- S-1: it stores the sample's own codes, temperatures and counts, the counts divided
 pub record Stores (s : State) (x : Sample) : Type 0 where
-  pub codes : (i : ℕ) → i < 7 → cellIn (after s x) (voltage i) ≡ voltageOf x i
+  pub codes : (i : ℕ) → i < 7 → cellIn (after s x) (voltage i) ≡ sampledCode x i
   pub sensor1 : signedOf half8 (cellIn (after s x) sensor1Value) ≡ x .sensor1
-  pub remote : (n : ℕ) → 2 ≤ n → n ≤ 3 → halvesIn (after s x) (bankCell n) ≡ halvesOf x n
-  pub counts : (f : ℕ) → 1 ≤ f → f ≤ 3 → cellIn (after s x) (fanCount f) ≡ countOf (s .registers) x f
+  pub remote : (n : ℕ) → 2 ≤ n → n ≤ 3 → halvesIn (after s x) (bankCell n) ≡ sampledHalves x n
+  pub counts : (f : ℕ) → 1 ≤ f → f ≤ 3 → cellIn (after s x) (fanCount f) ≡ storedCount (s .registers) x f
 
 -- S-9: after an accepted sample each real-time bit is its condition (bit 4 of 5Ah is stored as 0, and read as the latch)
 pub record RealTime (s : State) (x : Sample) : Type 0 where
@@ -127,7 +127,7 @@ fanBit f = choose (eqb f 3) 3 (5 + f)
 
 -- an accepted sample rings fan f exactly when its count after division is above its limit
 abbrev pub FanRings : State → Sample → Type 0
-FanRings s x = (f : ℕ) → 1 ≤ f → f ≤ 3 → bit (cellIn (after s x) (fanCell f)) (fanBit f) ≡ flagOf (ltb (cellIn s (fanLimit f)) (countOf (s .registers) x f))
+FanRings s x = (f : ℕ) → 1 ≤ f → f ≤ 3 → bit (cellIn (after s x) (fanCell f)) (fanBit f) ≡ flagOf (ltb (cellIn s (fanLimit f)) (storedCount (s .registers) x f))
 
 -- ---- status
 
@@ -231,7 +231,7 @@ pub record StoredOnly (s t : State) (x : Sample) : Type 0 where
 
 -- ---- all of it, of one sample as its type holds it: sensor 1 is a signed byte, so nothing is asked of it
 pub record SampleClaims (s : State) (x : Sample) : Type 0 where
-  pub refused : Refused s x
+  pub refused : RefusedSample s x
   pub frame : Frame s (after s x)
   pub stores : sampleOf s x .answer ≡ 0 → Stores s x
   pub fanRings : sampleOf s x .answer ≡ 0 → FanRings s x

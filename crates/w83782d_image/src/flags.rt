@@ -5,7 +5,7 @@ ghost use mathlib.Core.Path.{_≡_};
 ghost use Prim.Native.Nat.{_≤_, _+_, _*_};
 ghost use lib.ListN.{getD, set};
 ghost use lib.Seq.{sets};
-ghost use Rattle.w83782d_image.specs.Image.{imageLength, flagOf, markOf, flagByte, markByte, remoteAt, remoteBytes, latchesIn, flagBytes, spareZeros, putFrom};
+ghost use Rattle.w83782d_image.specs.Image.{imageLength, isSet, markFrom, flagByte, markByte, remoteAt, remoteBytes, latchesIn, flagBytes, spareZeros, putFrom};
 use bits::cell;
 use bits::put;
 use sensor::Mark;
@@ -30,13 +30,13 @@ const SPARE: usize = 120;
 // ---- Flags: 0 is closed, armed or released, any other byte opened, hot or asserted
 
 fn flag_at(image: &[u8], at: usize) -> bool
-    ensures { λ r. ⌜ r ≡ flagOf (getD (now (image .entry)) at 0) ⌝ }
+    ensures { λ r. ⌜ r ≡ isSet (getD (now (image .entry)) at 0) ⌝ }
 {
     cell(image, at) != 0
 }
 
 fn mark_at(image: &[u8], at: usize) -> Mark
-    ensures { λ r. ⌜ r ≡ markOf (getD (now (image .entry)) at 0) ⌝ }
+    ensures { λ r. ⌜ r ≡ markFrom (getD (now (image .entry)) at 0) ⌝ }
 {
     if cell(image, at) == 0 {
         return Mark::Armed;
@@ -144,7 +144,7 @@ pub fn chassis_in(image: &[u8]) -> bool
 
 // The flags written as 0 or 1: what a call leaves that changes no latch, at a fraction of what reading and storing them costs.
 // A slice of another length stays.
-pub fn tidy(image: &mut [u8])
+pub fn normalise_flags(image: &mut [u8])
     ensures { λ r. ⌜ now (image .exit) ≡ putFrom (now (image .entry)) 112 (flagBytes (latchesIn (now (image .entry)))) ⌝ }
 {
     if image.len() != IMAGE {

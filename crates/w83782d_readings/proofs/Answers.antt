@@ -31,8 +31,8 @@ use Rattle.w83782d_readings.specs.Readings.{temperatureAnswer, temperatu
 use Rattle.w83782d_readings.specs.Claims.{sizedAnswer, answerTo, ReadingClaims}
 
 -- ---- speeds: a count's own reading is never refused
-never : (count d : ℕ) → fan.speedAnswer (fan.speedOf count d) ≡ 0
-unfolding fan.speedOf
+never : (count d : ℕ) → fan.speedAnswer (fan.countSpeed count d) ≡ 0
+unfolding fan.countSpeed
 never count d = go (eqb count 0) (eqb count 255) (nearest perMinute (count * d))
   where
     go : (s t : Bool) (n : ℕ) → fan.speedAnswer (choose s speed.TooFast (choose t speed.TooSlow (speed.Rpm n))) ≡ 0
@@ -44,7 +44,7 @@ speed-at : (rs : List ℕ) (f : ℕ) → fan.speedAnswer (speedAt rs f) ≡ answ
 unfolding speedAt
 speed-at rs f = go (isBeyond 3 f)
   where
-    go : (t : Bool) → fan.speedAnswer (choose t speed.Refused (fan.speedOf (getD rs (fanCount f) 0) (valueOf (divisorOf rs f)))) ≡ choose t 7 0
+    go : (t : Bool) → fan.speedAnswer (choose t speed.Refused (fan.countSpeed (getD rs (fanCount f) 0) (valueOf (divisorOf rs f)))) ≡ choose t 7 0
     go true = refl
     go false = never (getD rs (fanCount f) 0) (valueOf (divisorOf rs f))
 

@@ -15,7 +15,7 @@ use Rattle.fan.specs.Speed as fan
 use Rattle.fan.specs.declared.Divisor.{Divisor}
 use Rattle.fan.specs.declared.Speed.{Speed}
 use Rattle.fan.specs.declared.Speed.the-variants as speed
-use Rattle.analog.specs.Readings.{millivoltsOf, Answers}
+use Rattle.analog.specs.Readings.{millivoltsOf, VoltageAnswers}
 use Rattle.analog.specs.Temperature.{TwosComplement}
 use Rattle.analog.specs.Pwm.{pwmParts}
 use Rattle.analog.specs.declared.voltages.Reading.{Reading}
@@ -45,7 +45,7 @@ module _ (rs : List ℕ) (w : length rs ≡ cells → ⊥) where
   duty-short n = simp (ne-eqb (length rs) cells w)
 
 -- ---- the registers
-pub voltage-read : (rs : List ℕ) (channel code r5 r6 : ℕ) (m : Reading) → length rs ≡ cells → code ≡ getD rs (voltage channel) 0 → (m ≡ millivoltsOf channel code r5 r6) × Answers
+pub voltage-read : (rs : List ℕ) (channel code r5 r6 : ℕ) (m : Reading) → length rs ≡ cells → code ≡ getD rs (voltage channel) 0 → (m ≡ millivoltsOf channel code r5 r6) × VoltageAnswers
     → m ≡ voltageOf rs channel r5 r6
 unfolding voltageOf
 voltage-read rs channel code r5 r6 m w e f = simp (eq-eqb (length rs) cells w) (f .0 ∙ ap (λ (c : ℕ). millivoltsOf channel c r5 r6) e)
@@ -60,10 +60,10 @@ module _ (rs : List ℕ) (f : ℕ) (w : length rs ≡ cells) where
   no-fan-4 h k = simp (eq-eqb (length rs) cells w, le-ltb f 1 h, lt-ltb 3 f k)
 
   pub fan-read : (p : Field) (d : Divisor) (n : ℕ) (r : Speed) → 1 ≤ f → f ≤ 3 → placesOf p ≡ divisorPlaces f → d ≡ divisorAt rs (placesOf p) → n ≡ getD rs (fanCount f) 0
-      → r ≡ fan.speedOf n (valueOf d) → r ≡ speedOf rs f
+      → r ≡ fan.countSpeed n (valueOf d) → r ≡ speedOf rs f
   unfolding speedOf speedAt
   fan-read p d n r h k ep ed en er =
-      simp (eq-eqb (length rs) cells w, le-ltb f 1 h, le-ltb 3 f k) (er ∙ ap₂ (λ (x : ℕ) (y : Divisor). fan.speedOf x (valueOf y)) en (ed ∙ ap (divisorAt rs) ep))
+      simp (eq-eqb (length rs) cells w, le-ltb f 1 h, le-ltb 3 f k) (er ∙ ap₂ (λ (x : ℕ) (y : Divisor). fan.countSpeed x (valueOf y)) en (ed ∙ ap (divisorAt rs) ep))
 
 module _ (rs : List ℕ) (n : ℕ) (w : length rs ≡ cells) where
   pub sensor-1 : (h : ℕ) (z : ℤ) → n ≡ 1 → h ≡ getD rs 7 0 → (z ≡ halfDegrees h 0) × TwosComplement → temperature.HalfDegrees z ≡ temperatureOf rs n

@@ -55,7 +55,7 @@ voltageAt rs channel r5 r6 = millivoltsOf channel (getD rs (voltage channel) 0) 
 unfoldable pub speedAt : List ℕ → ℕ → Speed
 speedAt rs f =
     choose (isBeyond 3 f) speed.Refused
-    (fan.speedOf (getD rs (fanCount f) 0) (valueOf (divisorOf rs f)))
+    (fan.countSpeed (getD rs (fanCount f) 0) (valueOf (divisorOf rs f)))
 
 -- half degrees of nine bits; sensor 1's whole degrees are eight bits, and no half below them
 abbrev pub halfDegrees : ℕ → ℕ → ℤ

@@ -26,17 +26,17 @@ use Rattle.w83782d_sample.specs.Stored.{storedReadings, sampleAnswer}
 use Rattle.w83782d_sample.specs.StoredParts.{storedIn}
 use Rattle.w83782d_sample.proofs.store.Rules.{stored-in}
 use Rattle.w83782d_sample.specs.declared.Step.{Step}
-use Rattle.w83782d_sample.specs.declared.Judged.{Judged}
-use Rattle.w83782d_sample.specs.declared.conditions.Stand.{Stand}
+use Rattle.w83782d_sample.specs.declared.Evaluation.{Evaluation}
+use Rattle.w83782d_sample.specs.declared.conditions.Comparison.{Comparison}
 use Rattle.w83782d_sample.specs.declared.conditions.Compared.{Compared}
-use Rattle.w83782d_sample.specs.Conditions.{isOutside, isAbove, isSlow, outputMode, standOf, comparedOf}
+use Rattle.w83782d_sample.specs.Conditions.{isOutside, isAbove, isSlow, outputMode, comparisonOf, comparedOf}
 use Rattle.w83782d_sample.specs.ConditionParts.{comparedIn}
 use Rattle.w83782d_sample.proofs.conditions.Rules.{not-one}
-use Rattle.w83782d_sample.specs.Sample.{realTimeStatus1, statusAt, outputAt, remoteAfter, judgedRegisters, steppedLatches, sampleOf}
-use Rattle.w83782d_sample.specs.SampleParts.{remoteStep, Judges}
+use Rattle.w83782d_sample.specs.Sample.{realTimeStatus1, statusAt, outputAt, remoteAfter, statusRegisters, steppedLatches, sampleOf}
+use Rattle.w83782d_sample.specs.SampleParts.{remoteStep, Evaluates}
 
 -- ---- the steps
-pub remote-stepped : (s : Stand) (o : Mode) (r : Remote) (st : Status) (out : Output) → st ≡ statusOf (s .mode) (r .status) (s .above) (s .below) → out ≡ outputOf o (r .output) (s .above) (s .below)
+pub remote-stepped : (s : Comparison) (o : Mode) (r : Remote) (st : Status) (out : Output) → st ≡ statusOf (s .mode) (r .status) (s .above) (s .below) → out ≡ outputOf o (r .output) (s .above) (s .below)
     → record { remote = remote (st .mark) out; latched = st .latched } ≡ remoteStep s o r
 unfolding remoteStep
 remote-stepped s o r st out e f = rw (e, f)
@@ -46,18 +46,18 @@ found : (rs : List ℕ) → length rs ≡ cells → (c : Compared) → c ≡ com
 found rs h c e = e ∙ simp (eq-eqb (length rs) cells h)
 
 module _ (rs : List ℕ) (l : Latches) where
-  status-1 : (st : Status) → st ≡ statusOf (standOf rs 1 .mode) (l .sensor1) (standOf rs 1 .above) (standOf rs 1 .below) → st ≡ statusAt rs l 1
-  unfolding standOf statusAt
+  status-1 : (st : Status) → st ≡ statusOf (comparisonOf rs 1 .mode) (l .sensor1) (comparisonOf rs 1 .above) (comparisonOf rs 1 .below) → st ≡ statusAt rs l 1
+  unfolding comparisonOf statusAt
   status-1 st e = e
 
   -- sensors 2 and 3, over the number
-  module _ (n : ℕ) (h : 2 ≤ n) (x : Step) (e : x ≡ remoteStep (standOf rs n) (outputMode rs n) (remoteOf l n)) where
+  module _ (n : ℕ) (h : 2 ≤ n) (x : Step) (e : x ≡ remoteStep (comparisonOf rs n) (outputMode rs n) (remoteOf l n)) where
     latched-n : x .latched ≡ statusAt rs l n .latched
-    unfolding remoteStep statusAt standOf
+    unfolding remoteStep statusAt comparisonOf
     latched-n = simp (e, not-one n h)
 
     remote-n : x .remote ≡ remoteAfter rs l n
-    unfolding remoteStep statusAt outputAt standOf
+    unfolding remoteStep statusAt outputAt comparisonOf
     remote-n = simp (e, not-one n h)
 
 -- ---- the bytes: the sensors' bits joined to those of rails and fans, bit by bit
@@ -107,18 +107,18 @@ short : (a b c d e f : Bool) → word (a ∷ b ∷ c ∷ d ∷ e ∷ f ∷ false
 unfolding word
 short a b c d e f = refl
 
-judged-of : (rs : List ℕ) (l : Latches) (one : Status) (two three : Step) (w1 w2 r1 r2 l1 l2 : ℕ)
-    → one ≡ statusOf (standOf rs 1 .mode) (l .sensor1) (standOf rs 1 .above) (standOf rs 1 .below)
-    → two ≡ remoteStep (standOf rs 2) (outputMode rs 2) (getD (l .remote) 0 armed) → three ≡ remoteStep (standOf rs 3) (outputMode rs 3) (getD (l .remote) 1 armed)
+evaluation-of : (rs : List ℕ) (l : Latches) (one : Status) (two three : Step) (w1 w2 r1 r2 l1 l2 : ℕ)
+    → one ≡ statusOf (comparisonOf rs 1 .mode) (l .sensor1) (comparisonOf rs 1 .above) (comparisonOf rs 1 .below)
+    → two ≡ remoteStep (comparisonOf rs 2) (outputMode rs 2) (getD (l .remote) 0 armed) → three ≡ remoteStep (comparisonOf rs 3) (outputMode rs 3) (getD (l .remote) 1 armed)
     → w1 ≡ word (isOutside rs 0 ∷ isOutside rs 1 ∷ isOutside rs 2 ∷ isOutside rs 3 ∷ false ∷ false ∷ isSlow rs 1 ∷ isSlow rs 2 ∷ [])
     → w2 ≡ word (isOutside rs 4 ∷ isOutside rs 5 ∷ isOutside rs 6 ∷ isSlow rs 3 ∷ false ∷ false ∷ false ∷ false ∷ [])
     → r1 ≡ word (false ∷ false ∷ false ∷ false ∷ isAbove rs 1 ∷ isAbove rs 2 ∷ false ∷ false ∷ [])
     → r2 ≡ word (false ∷ false ∷ false ∷ false ∷ false ∷ isAbove rs 3 ∷ false ∷ false ∷ [])
     → l1 ≡ word (false ∷ false ∷ false ∷ false ∷ one .latched ∷ two .latched ∷ false ∷ false ∷ [])
     → l2 ≡ word (false ∷ false ∷ false ∷ false ∷ false ∷ three .latched ∷ false ∷ false ∷ [])
-    → Judges rs l (record { real1 = bitOr w1 r1; real2 = bitOr w2 r2; latched1 = bitOr w1 l1; latched2 = bitOr w2 l2; latches = record { chassis = l .chassis; sensor1 = one .mark; remote = two .remote ∷ three .remote ∷ [] } })
+    → Evaluates rs l (record { real1 = bitOr w1 r1; real2 = bitOr w2 r2; latched1 = bitOr w1 l1; latched2 = bitOr w2 l2; latches = record { chassis = l .chassis; sensor1 = one .mark; remote = two .remote ∷ three .remote ∷ [] } })
 unfolding steppedLatches
-judged-of rs l one two three w1 w2 r1 r2 l1 l2 e1 e2 e3 d1 d2 f1 f2 g1 g2 =
+evaluation-of rs l one two three w1 w2 r1 r2 l1 l2 e1 e2 e3 d1 d2 f1 f2 g1 g2 =
     record {
       real1 = ap₂ bitOr d1 f1 ∙ joined _ _ _ _ _ _ _ _;
       real2 = ap₂ bitOr d2 f2 ∙ joined _ _ _ _ false _ false false ∙ short _ _ _ _ _ _;
@@ -127,25 +127,25 @@ judged-of rs l one two three w1 w2 r1 r2 l1 l2 e1 e2 e3 d1 d2 f1 f2 g1 g2 =
       latches = simp (status-1 rs l one e1, remote-n rs l 2 (lit≤ tt) two e2, remote-n rs l 3 (lit≤ tt) three e3);
     }
 
-pub judged : (rs : List ℕ) (l : Latches) (c : Compared) (one : Status) (two three : Step) (r1 r2 l1 l2 : ℕ) → length rs ≡ cells → c ≡ comparedIn rs
+pub evaluation : (rs : List ℕ) (l : Latches) (c : Compared) (one : Status) (two three : Step) (r1 r2 l1 l2 : ℕ) → length rs ≡ cells → c ≡ comparedIn rs
     → one ≡ statusOf (c .one .mode) (l .sensor1) (c .one .above) (c .one .below)
     → two ≡ remoteStep (c .two) (c .output2) (getD (l .remote) 0 armed) → three ≡ remoteStep (c .three) (c .output3) (getD (l .remote) 1 armed)
     → r1 ≡ word (false ∷ false ∷ false ∷ false ∷ c .one .above ∷ c .two .above ∷ false ∷ false ∷ [])
     → r2 ≡ word (false ∷ false ∷ false ∷ false ∷ false ∷ c .three .above ∷ false ∷ false ∷ [])
     → l1 ≡ word (false ∷ false ∷ false ∷ false ∷ one .latched ∷ two .latched ∷ false ∷ false ∷ [])
     → l2 ≡ word (false ∷ false ∷ false ∷ false ∷ false ∷ three .latched ∷ false ∷ false ∷ [])
-    → Judges rs l (record { real1 = bitOr (c .first) r1; real2 = bitOr (c .second) r2; latched1 = bitOr (c .first) l1; latched2 = bitOr (c .second) l2; latches = record { chassis = l .chassis; sensor1 = one .mark; remote = two .remote ∷ three .remote ∷ [] } })
-unfolding comparedOf standOf
-judged rs l c one two three r1 r2 l1 l2 h e e1 e2 e3 f1 f2 g1 g2 =
+    → Evaluates rs l (record { real1 = bitOr (c .first) r1; real2 = bitOr (c .second) r2; latched1 = bitOr (c .first) l1; latched2 = bitOr (c .second) l2; latches = record { chassis = l .chassis; sensor1 = one .mark; remote = two .remote ∷ three .remote ∷ [] } })
+unfolding comparedOf comparisonOf
+evaluation rs l c one two three r1 r2 l1 l2 h e e1 e2 e3 f1 f2 g1 g2 =
     let k = found rs h c e in
-    rw k (judged-of rs l one two three _ _ r1 r2 l1 l2 (rw k at e1) (rw k at e2) (rw k at e3) refl refl (rw k at f1) (rw k at f2) g1 g2)
+    rw k (evaluation-of rs l one two three _ _ r1 r2 l1 l2 (rw k at e1) (rw k at e2) (rw k at e3) refl refl (rw k at f1) (rw k at f2) g1 g2)
 
--- ---- four stores are the list of verdicts
-pub status-set : (rs : List ℕ) (l : Latches) (j : Judged) → Judges rs l j
+-- ---- four stores are the list of statusStores
+pub status-set : (rs : List ℕ) (l : Latches) (j : Evaluation) → Evaluates rs l j
     → (j .latches ≡ steppedLatches rs l)
     × (set (set (set (set rs interruptStatus1 (bitOr (getD rs interruptStatus1 0) (j .latched1))) interruptStatus2 (bitOr (getD rs interruptStatus2 0) (j .latched2))) realTimeStatus1 (j .real1)) realTimeStatus2 (j .real2)
-    ≡ judgedRegisters rs l)
-unfolding judgedRegisters
+    ≡ statusRegisters rs l)
+unfolding statusRegisters
 status-set rs l j e = (e .latches, rw (e .latched1, e .latched2, e .real1, e .real2))
 
 -- ---- the sample
@@ -158,7 +158,7 @@ module _ (rs : List ℕ) (l : Latches) (x : Sample) where
     unfolding sampleOf
     sample-refused n = simp (eq-eqb (length rs) cells h, ← e, ne-eqb a 0 n)
 
-    pub sample-accepted : (ts us : List ℕ) (m : Latches) → a ≡ 0 → ts ≡ storedIn rs x → (m ≡ steppedLatches ts l) × (us ≡ judgedRegisters ts l)
+    pub sample-accepted : (ts us : List ℕ) (m : Latches) → a ≡ 0 → ts ≡ storedIn rs x → (m ≡ steppedLatches ts l) × (us ≡ statusRegisters ts l)
         → written (state us m) 0 ≡ sized rs l (sampleOf (state rs l) x)
     unfolding sampleOf
     sample-accepted ts us m z f g =

@@ -5,12 +5,12 @@ use Prim.Native.Nat.{ℕ}
 use Rattle.bits.specs.Bits.{choose}
 use Rattle.sensor.specs.declared.Mode.the-variants.{Interrupt}
 use Rattle.w83782d_map.specs.Map.{fits}
-use Rattle.w83782d_sample.specs.declared.conditions.Stand.{Stand}
+use Rattle.w83782d_sample.specs.declared.conditions.Comparison.{Comparison}
 use Rattle.w83782d_sample.specs.declared.conditions.Compared.{Compared}
 use Rattle.w83782d_sample.specs.Conditions.{comparedOf}
 
 -- in a slice of another length nothing is found
-abbrev still : Stand
+abbrev still : Comparison
 still = record { mode = Interrupt; above = false; below = false }
 
 abbrev pub nothing : Compared

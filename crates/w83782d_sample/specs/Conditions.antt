@@ -13,7 +13,7 @@ use Rattle.sensor.specs.declared.Mode.the-variants.{Comparator, Interrupt}
 use Rattle.w83782d_map.specs.Map.{at, bankCell}
 use Rattle.w83782d_bus.specs.Registers.{isInterrupt}
 use Rattle.w83782d_sample.specs.Stored.{voltage, fanCount, sensor1Value}
-use Rattle.w83782d_sample.specs.declared.conditions.Stand.{Stand}
+use Rattle.w83782d_sample.specs.declared.conditions.Comparison.{Comparison}
 use Rattle.w83782d_sample.specs.declared.conditions.Compared.{Compared}
 
 -- ---- the limits of a rail, a sensor and a fan, and cells that name modes
@@ -81,17 +81,17 @@ unfoldable pub outputMode : List ℕ → ℕ → Mode
 outputMode rs n = modeIf (not (isInterrupt rs n))
 
 -- ---- what a sample finds: where each sensor stands, the bits of rails and fans in both bytes (the sensors' off), the OVT modes
-unfoldable pub standOf : List ℕ → ℕ → Stand
-standOf rs n = record { mode = statusMode rs n; above = isAbove rs n; below = isBelow rs n }
+unfoldable pub comparisonOf : List ℕ → ℕ → Comparison
+comparisonOf rs n = record { mode = statusMode rs n; above = isAbove rs n; below = isBelow rs n }
 
 unfoldable pub comparedOf : List ℕ → Compared
 comparedOf rs =
     record {
       first = word (isOutside rs 0 ∷ isOutside rs 1 ∷ isOutside rs 2 ∷ isOutside rs 3 ∷ false ∷ false ∷ isSlow rs 1 ∷ isSlow rs 2 ∷ []);
       second = word (isOutside rs 4 ∷ isOutside rs 5 ∷ isOutside rs 6 ∷ isSlow rs 3 ∷ false ∷ false ∷ false ∷ false ∷ []);
-      one = standOf rs 1;
-      two = standOf rs 2;
-      three = standOf rs 3;
+      one = comparisonOf rs 1;
+      two = comparisonOf rs 2;
+      three = comparisonOf rs 3;
       output2 = outputMode rs 2;
       output3 = outputMode rs 3;
     }

@@ -68,16 +68,16 @@ latchedByte rs l b = word (map (latchedBy rs l) b)
 abbrev pub realTimeStatus1 : ℕ
 realTimeStatus1 = atBank 4 0x59
 
-abbrev pub verdicts : List ℕ → Latches → List Store
-verdicts rs l =
+abbrev pub statusStores : List ℕ → Latches → List Store
+statusStores rs l =
     (interruptStatus1 ≔ bitOr (getD rs interruptStatus1 0) (latchedByte rs l firstByte))
     ∷ (interruptStatus2 ≔ bitOr (getD rs interruptStatus2 0) (latchedByte rs l secondByte))
     ∷ (realTimeStatus1 ≔ realTimeByte rs firstByte)
     ∷ (realTimeStatus2 ≔ realTimeByte rs secondByte)
     ∷ []
 
-unfoldable pub judgedRegisters : List ℕ → Latches → List ℕ
-judgedRegisters rs l = puts rs (verdicts rs l)
+unfoldable pub statusRegisters : List ℕ → Latches → List ℕ
+statusRegisters rs l = puts rs (statusStores rs l)
 
 abbrev pub remoteAfter : List ℕ → Latches → ℕ → Remote
 remoteAfter rs l n = remote (statusAt rs l n .mark) (outputAt rs l n)
@@ -89,7 +89,7 @@ steppedLatches rs l = latches (l .chassis) (statusAt rs l 1 .mark) (remoteAfter 
 
 abbrev pub sampledState : State → Sample → State
 sampledState s x =
-    state (judgedRegisters (storedReadings (s .registers) x) (s .latches)) (steppedLatches (storedReadings (s .registers) x) (s .latches))
+    state (statusRegisters (storedReadings (s .registers) x) (s .latches)) (steppedLatches (storedReadings (s .registers) x) (s .latches))
 
 unfoldable pub sampleOf : State → Sample → Written
 sampleOf s x =

@@ -6,13 +6,13 @@ use Rattle.sensor.specs.Sensor.{remote, statusOf, outputOf}
 use Rattle.sensor.specs.declared.Mode.{Mode}
 use Rattle.sensor.specs.declared.Remote.{Remote}
 use Rattle.w83782d_bus.specs.declared.latches.Latches.{Latches}
-use Rattle.w83782d_sample.specs.declared.conditions.Stand.{Stand}
+use Rattle.w83782d_sample.specs.declared.conditions.Comparison.{Comparison}
 use Rattle.w83782d_sample.specs.declared.Step.{Step}
-use Rattle.w83782d_sample.specs.declared.Judged.{Judged}
+use Rattle.w83782d_sample.specs.declared.Evaluation.{Evaluation}
 use Rattle.w83782d_sample.specs.Sample.{realTimeByte, latchedByte, firstByte, secondByte, steppedLatches}
 
 -- the step of sensors 2 and 3, from where the sensor stands and its OVT mode
-unfoldable pub remoteStep : Stand → Mode → Remote → Step
+unfoldable pub remoteStep : Comparison → Mode → Remote → Step
 remoteStep s o r =
     record {
       remote = remote (statusOf (s .mode) (r .status) (s .above) (s .below) .mark) (outputOf o (r .output) (s .above) (s .below));
@@ -20,7 +20,7 @@ remoteStep s o r =
     }
 
 -- what the readings stored say
-pub record Judges (rs : List ℕ) (l : Latches) (j : Judged) : Type 0 where
+pub record Evaluates (rs : List ℕ) (l : Latches) (j : Evaluation) : Type 0 where
   pub real1 : j .real1 ≡ realTimeByte rs firstByte
   pub real2 : j .real2 ≡ realTimeByte rs secondByte
   pub latched1 : j .latched1 ≡ latchedByte rs l firstByte

@@ -54,18 +54,18 @@ puts rs [] = rs
 puts rs (w ∷ ws) = puts (set rs (w .cell) (w .byte)) ws
 
 -- ---- S-1: the readings that a sample stores, whole bytes. decision D-46
-abbrev pub voltageOf : Sample → ℕ → ℕ
-voltageOf x i = getD (x .codes) i 0
+abbrev pub sampledCode : Sample → ℕ → ℕ
+sampledCode x i = getD (x .codes) i 0
 
-abbrev pub halvesOf : Sample → ℕ → ℤ
-halvesOf x n = getD (x .remote) (n - 2) (pos 0)
+abbrev pub sampledHalves : Sample → ℕ → ℤ
+sampledHalves x n = getD (x .remote) (n - 2) (pos 0)
 
 abbrev pub none : Undivided
 none = record { 0 = 0 }
 
 -- S-3
-abbrev pub countOf : List ℕ → Sample → ℕ → ℕ
-countOf rs x f = storedOf (getD (x .counts) (f - 1) none .0) (valueOf (divisorOf rs f))
+abbrev pub storedCount : List ℕ → Sample → ℕ → ℕ
+storedCount rs x f = storedOf (getD (x .counts) (f - 1) none .0) (valueOf (divisorOf rs f))
 
 abbrev pub rails : List ℕ
 rails = 0 ∷ 1 ∷ 2 ∷ 3 ∷ 4 ∷ 5 ∷ 6 ∷ []
@@ -75,13 +75,13 @@ fans = 1 ∷ 2 ∷ 3 ∷ []
 
 -- S-4: nine bits, in two bytes
 abbrev pub halves : Sample → ℕ → List Store
-halves x n = (bankCell n ≔ halfHigh (halfCodeOf (halvesOf x n))) ∷ ((bankCell n + 1) ≔ halfLow (halfCodeOf (halvesOf x n))) ∷ []
+halves x n = (bankCell n ≔ halfHigh (halfCodeOf (sampledHalves x n))) ∷ ((bankCell n + 1) ≔ halfLow (halfCodeOf (sampledHalves x n))) ∷ []
 
 -- the counts go by the divisors now set; all cells are distinct
 abbrev pub readings : List ℕ → Sample → List Store
 readings rs x =
-    map (λ f. fanCount f ≔ countOf rs x f) fans
-    ++ map (λ i. voltage i ≔ voltageOf x i) rails
+    map (λ f. fanCount f ≔ storedCount rs x f) fans
+    ++ map (λ i. voltage i ≔ sampledCode x i) rails
     ++ (sensor1Value ≔ codeOf half8 (x .sensor1)) ∷ halves x 2
     ++ halves x 3
 
@@ -97,6 +97,6 @@ isStopped c = not (isOn c 0) || isOn c 3
 -- A-3, then A-4
 unfoldable pub sampleAnswer : List ℕ → Sample → ℕ
 sampleAnswer rs x =
-    choose (outside (halvesOf x 2)) 3
-    (choose (outside (halvesOf x 3)) 3
+    choose (outside (sampledHalves x 2)) 3
+    (choose (outside (sampledHalves x 3)) 3
     (choose (isStopped (getD rs configuration 0)) 4 0))

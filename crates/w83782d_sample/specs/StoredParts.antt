@@ -8,7 +8,7 @@ use Rattle.bits.specs.declared.fields.Field.{Field}
 use Rattle.analog.specs.Temperature.{half8, codeOf, halfCodeOf, halfHigh, halfLow}
 use Rattle.w83782d_record.specs.declared.samples.Sample.{Sample}
 use Rattle.w83782d_map.specs.Map.{at, fits}
-use Rattle.w83782d_sample.specs.Stored.{place, sensor1Value, voltage, voltageOf, fanCount, countOf, rails, fans, puts, _≔_, storedReadings}
+use Rattle.w83782d_sample.specs.Stored.{place, sensor1Value, voltage, sampledCode, fanCount, storedCount, rails, fans, puts, _≔_, storedReadings}
 
 -- a divisor's field: two bits in one cell, the top one in 5Dh
 abbrev pub fieldOf : ℕ → Bit → Bit → Bit → Field
@@ -16,10 +16,10 @@ fieldOf c low middle high = record { low = place c low; middle = place c middle;
 
 -- three counts; seven codes and sensor 1; nine bits from a cell
 unfoldable pub withCounts : List ℕ → Sample → List ℕ
-withCounts rs x = puts rs (map (λ f. fanCount f ≔ countOf rs x f) fans)
+withCounts rs x = puts rs (map (λ f. fanCount f ≔ storedCount rs x f) fans)
 
 unfoldable pub withCodes : List ℕ → Sample → List ℕ
-withCodes rs x = puts rs (map (λ i. voltage i ≔ voltageOf x i) rails ++ (sensor1Value ≔ codeOf half8 (x .sensor1)) ∷ [])
+withCodes rs x = puts rs (map (λ i. voltage i ≔ sampledCode x i) rails ++ (sensor1Value ≔ codeOf half8 (x .sensor1)) ∷ [])
 
 unfoldable pub withHalves : List ℕ → ℕ → ℤ → List ℕ
 withHalves rs c t = puts rs ((c ≔ halfHigh (halfCodeOf t)) ∷ ((c + 1) ≔ halfLow (halfCodeOf t)) ∷ [])

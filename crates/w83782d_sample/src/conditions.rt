@@ -6,7 +6,7 @@ ghost use Prim.Native.Nat.{_<_, _≤_, _+_};
 ghost use lib.ListN.{length};
 ghost use Rattle.bits.specs.Bits.{word};
 ghost use Rattle.w83782d_map.specs.Map.{cells};
-ghost use Rattle.w83782d_sample.specs.Conditions.{isOutside, halfLevelAt, isSlow, modeIf, outputMode, standOf};
+ghost use Rattle.w83782d_sample.specs.Conditions.{isOutside, halfLevelAt, isSlow, modeIf, outputMode, comparisonOf};
 ghost use Rattle.w83782d_sample.specs.ConditionParts.{comparedIn};
 use analog::half_level;
 use analog::whole_level;
@@ -126,21 +126,21 @@ fn output_mode(s: &[u8], sensor: usize) -> Mode
 // ---- Sensors
 
 // A sensor's status mode, and its temperature against its limits.
-pub struct Stand {
+pub struct Comparison {
     pub mode: Mode,
     pub above: bool,
     pub below: bool,
 }
 
-fn sensor1_stand(s: &[u8]) -> Stand
+fn compare_sensor1(s: &[u8]) -> Comparison
     requires { ⌜ length (now s) ≡ cells ⌝ }
-    ensures { λ r. ⌜ r ≡ standOf (now (s .entry)) 1 ⌝ }
+    ensures { λ r. ⌜ r ≡ comparisonOf (now (s .entry)) 1 ⌝ }
 {
     let t = whole_level(s[SENSOR_1]);
     let over = whole_level(s[SENSOR_1_OVER]);
     let hysteresis = whole_level(s[SENSOR_1_HYSTERESIS]);
     let mode = mode_if(s[SENSOR_1_HYSTERESIS] == 127);
-    Stand {
+    Comparison {
         mode,
         above: over < t,
         below: t < hysteresis,
@@ -148,16 +148,16 @@ fn sensor1_stand(s: &[u8]) -> Stand
 }
 
 // Sensor 2 or 3.
-fn remote_stand(s: &[u8], sensor: usize) -> Stand
+fn compare_remote(s: &[u8], sensor: usize) -> Comparison
     requires { ⌜ (length (now s) ≡ cells) × (2 ≤ sensor) ⌝ }
-    ensures { λ r. ⌜ r ≡ standOf (now (s .entry)) sensor ⌝ }
+    ensures { λ r. ⌜ r ≡ comparisonOf (now (s .entry)) sensor ⌝ }
 {
     let bank = bank_cell(sensor);
     let t = half_level_at(s, bank);
     let over = half_level_at(s, bank + OVER);
     let hysteresis = half_level_at(s, bank + HYSTERESIS);
     let mode = mode_if(is_on(s[IRQ_OVT], Bit::B6));
-    Stand {
+    Comparison {
         mode,
         above: over < t,
         below: t < hysteresis,
@@ -170,9 +170,9 @@ fn remote_stand(s: &[u8], sensor: usize) -> Stand
 pub struct Compared {
     pub first: u8,
     pub second: u8,
-    pub one: Stand,
-    pub two: Stand,
-    pub three: Stand,
+    pub one: Comparison,
+    pub two: Comparison,
+    pub three: Comparison,
     pub output2: Mode,
     pub output3: Mode,
 }
@@ -182,7 +182,7 @@ pub fn compare(s: &[u8]) -> Compared
     ensures { λ r. ⌜ r ≡ comparedIn (now (s .entry)) ⌝ }
 {
     if s.len() != CELLS {
-        let still = Stand {
+        let still = Comparison {
             mode: Mode::Interrupt,
             above: false,
             below: false,
@@ -199,9 +199,9 @@ pub fn compare(s: &[u8]) -> Compared
     }
     let first = first_byte(s);
     let second = second_byte(s);
-    let one = sensor1_stand(s);
-    let two = remote_stand(s, 2);
-    let three = remote_stand(s, 3);
+    let one = compare_sensor1(s);
+    let two = compare_remote(s, 2);
+    let three = compare_remote(s, 3);
     let output2 = output_mode(s, 2);
     let output3 = output_mode(s, 3);
     Compared {

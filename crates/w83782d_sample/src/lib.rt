@@ -7,13 +7,13 @@ ghost use lib.ListN.{length};
 ghost use Rattle.bits.specs.Bits.{word};
 ghost use Rattle.w83782d_map.specs.Map.{cells};
 ghost use Rattle.w83782d_bus.specs.Bus.{state, sized, wroteIn};
-ghost use Rattle.w83782d_sample.specs.Sample.{judgedRegisters, steppedLatches, sampleOf};
-ghost use Rattle.w83782d_sample.specs.SampleParts.{remoteStep, Judges};
+ghost use Rattle.w83782d_sample.specs.Sample.{statusRegisters, steppedLatches, sampleOf};
+ghost use Rattle.w83782d_sample.specs.SampleParts.{remoteStep, Evaluates};
 
 pub mod conditions;
 pub mod store;
 
-use crate::conditions::Stand;
+use crate::conditions::Comparison;
 use crate::conditions::compare;
 use crate::store::answer_to;
 use crate::store::store;
@@ -45,14 +45,14 @@ struct Step {
     latched: bool,
 }
 
-fn remote_step(stand: Stand, ovt: Mode, remote: Remote) -> Step
-    ensures { λ r. ⌜ r ≡ remoteStep stand ovt remote ⌝ }
+fn remote_step(comparison: Comparison, ovt: Mode, remote: Remote) -> Step
+    ensures { λ r. ⌜ r ≡ remoteStep comparison ovt remote ⌝ }
 {
-    let mode = stand.mode;
+    let mode = comparison.mode;
     let mark = remote.status;
     let old = remote.output;
-    let stepped = status_step(mode, mark, stand.above, stand.below);
-    let output = output_step(ovt, old, stand.above, stand.below);
+    let stepped = status_step(mode, mark, comparison.above, comparison.below);
+    let output = output_step(ovt, old, comparison.above, comparison.below);
     let status = stepped.mark;
     let after = Remote { status, output };
     Step {
@@ -72,7 +72,7 @@ fn sensors(four: bool, five: bool) -> u8
 
 // ---- Real-time bits, status, marks and OVT, from the readings stored
 
-struct Judged {
+struct Evaluation {
     real1: u8,
     real2: u8,
     latched1: u8,
@@ -80,9 +80,9 @@ struct Judged {
     latches: Latches,
 }
 
-fn judge(s: &[u8], l: Latches) -> Judged
+fn evaluate(s: &[u8], l: Latches) -> Evaluation
     requires { ⌜ length (now s) ≡ cells ⌝ }
-    ensures { λ r. ⌜ Judges (now (s .entry)) l r ⌝ }
+    ensures { λ r. ⌜ Evaluates (now (s .entry)) l r ⌝ }
 {
     let m = l.sensor1;
     let p = l.remote[0];
@@ -90,17 +90,17 @@ fn judge(s: &[u8], l: Latches) -> Judged
     let found = compare(s);
     let first = found.first;
     let second = found.second;
-    let stand1 = found.one;
-    let stand2 = found.two;
-    let stand3 = found.three;
-    let mode1 = stand1.mode;
+    let comparison1 = found.one;
+    let comparison2 = found.two;
+    let comparison3 = found.three;
+    let mode1 = comparison1.mode;
     let output2 = found.output2;
     let output3 = found.output3;
-    let one = status_step(mode1, m, stand1.above, stand1.below);
-    let two = remote_step(stand2, output2, p);
-    let three = remote_step(stand3, output3, q);
-    let real1 = first | sensors(stand1.above, stand2.above);
-    let real2 = second | sensors(false, stand3.above);
+    let one = status_step(mode1, m, comparison1.above, comparison1.below);
+    let two = remote_step(comparison2, output2, p);
+    let three = remote_step(comparison3, output3, q);
+    let real1 = first | sensors(comparison1.above, comparison2.above);
+    let real2 = second | sensors(false, comparison3.above);
     let latched1 = first | sensors(one.latched, two.latched);
     let latched2 = second | sensors(false, three.latched);
     let sensor1 = one.mark;
@@ -112,7 +112,7 @@ fn judge(s: &[u8], l: Latches) -> Judged
         sensor1,
         remote,
     };
-    Judged {
+    Evaluation {
         real1,
         real2,
         latched1,
@@ -123,16 +123,16 @@ fn judge(s: &[u8], l: Latches) -> Judged
 
 fn set_status(s: &mut [u8], l: Latches) -> Latches
     requires { ⌜ length (now s) ≡ cells ⌝ }
-    ensures { λ r. ⌜ (r ≡ steppedLatches (now (s .entry)) l) × (now (s .exit) ≡ judgedRegisters (now (s .entry)) l) ⌝ }
+    ensures { λ r. ⌜ (r ≡ steppedLatches (now (s .entry)) l) × (now (s .exit) ≡ statusRegisters (now (s .entry)) l) ⌝ }
 {
-    let judged = judge(s, l);
-    let status1 = s[INTERRUPT_STATUS_1] | judged.latched1;
-    let status2 = s[INTERRUPT_STATUS_2] | judged.latched2;
+    let evaluation = evaluate(s, l);
+    let status1 = s[INTERRUPT_STATUS_1] | evaluation.latched1;
+    let status2 = s[INTERRUPT_STATUS_2] | evaluation.latched2;
     s[INTERRUPT_STATUS_1] = status1;
     s[INTERRUPT_STATUS_2] = status2;
-    s[REAL_TIME_STATUS_1] = judged.real1;
-    s[REAL_TIME_STATUS_2] = judged.real2;
-    judged.latches
+    s[REAL_TIME_STATUS_1] = evaluation.real1;
+    s[REAL_TIME_STATUS_2] = evaluation.real2;
+    evaluation.latches
 }
 
 // ---- The sample

@@ -11,7 +11,7 @@ use borrow.Author.Tests.{leb-true, le-leb, lt-leb, lt-ltb}
 use Rattle.bits.specs.Bits.{choose}
 use Rattle.analog.specs.declared.voltages.Reading.{Reading}
 use Rattle.analog.specs.declared.voltages.Reading.the-variants.{Millivolts, Refused}
-use Rattle.analog.specs.Readings.{nearestZ, reading, readingAnswer, isResistor, railOf, millivoltsOf, answerFor, Answers}
+use Rattle.analog.specs.Readings.{nearestZ, reading, readingAnswer, isResistor, railOf, millivoltsOf, answerFor, VoltageAnswers}
 use Rattle.rounding.specs.Rounding.{nearest}
 use Rattle.rounding.proofs.Quotients.{nearest-le}
 use Rattle.analog.proofs.Signs.{minus-is, plus-is}
@@ -123,5 +123,5 @@ exactly (suc (suc (suc (suc (suc (suc zero)))))) c r5 r6 = rail-answer c r5 r6
 exactly (suc (suc (suc (suc (suc (suc (suc k))))))) c r5 r6 =
     simp (lt-ltb 6 (suc (suc (suc (suc (suc (suc (suc k))))))) (omega arith))
 
-pub answers-hold : Answers
+pub answers-hold : VoltageAnswers
 answers-hold = record { exactly = exactly }

@@ -23,7 +23,7 @@ use Rattle.w83782d_bus.specs.Registers.{cellOf, bankOf, reachOf}
 use Rattle.w83782d_bus.specs.Bus.{State, writtenRegisters, writeOf, Written, readOf, Read}
 use Rattle.w83782d_map.proofs.Cells.{present, present-rows, present-out}
 use Rattle.w83782d_bus.proofs.registers.Cases.{cell-alias, cell-any}
-use Rattle.w83782d_claims.specs.BusClaims.{answers1, Answers, Refused, Alias, Unbanked, BankSelected, AbsentBank, isAbsent}
+use Rattle.w83782d_claims.specs.BusClaims.{answers1, AccessAnswers, RefusedAccess, Alias, Unbanked, BankSelected, AbsentBank, isAbsent}
 
 -- ---- answers
 pub write-answer : (s : State) (i v : ℕ) → writeOf s i v .answer ≡ writeAnswer (reachOf (s .registers) i)
@@ -94,7 +94,7 @@ write-below s i v = rw (write-answer s i v) (write-3 (reachOf (s .registers) i))
 pub read-below : (s : State) (i : ℕ) → readOf s i .answer < 2
 read-below s i = rw (read-answer s i) (read-2 (presentAt (reachOf (s .registers) i)))
 
-pub answers : (s : State) (i v : ℕ) → i < 256 → Answers s i v
+pub answers : (s : State) (i v : ℕ) → i < 256 → AccessAnswers s i v
 answers s i v hi =
     let c = reachOf (s .registers) i in
     let l = absent-listed (bankOf (s .registers)) i (bank-lt (s .registers)) hi in
@@ -107,7 +107,7 @@ answers s i v hi =
     }
 
 -- ---- a refused access
-pub refused : (s : State) (i v : ℕ) → Refused s i v
+pub refused : (s : State) (i v : ℕ) → RefusedAccess s i v
 unfolding writeOf readOf
 refused s i v =
     let c = reachOf (s .registers) i in

@@ -4,10 +4,10 @@ use mathlib.Core.Path.{refl}
 use Rattle.rounding.specs.Rounding.{nearest}
 use Rattle.fan.specs.Count.{fromBits}
 use Rattle.fan.specs.Search.{better, bestTo, planOf}
-use Rattle.fan.specs.Speed.{speedOf}
+use Rattle.fan.specs.Speed.{countSpeed}
 use Rattle.analog.specs.Readings.{railOf, millivoltsOf}
 use Rattle.w83782d_claims.specs.Figures.{Figures}
 
 pub figures-hold : Figures
-unfolding fromBits better bestTo planOf speedOf nearest railOf millivoltsOf
+unfolding fromBits better bestTo planOf countSpeed nearest railOf millivoltsOf
 figures-hold = (refl, refl)

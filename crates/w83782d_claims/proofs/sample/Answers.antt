@@ -11,9 +11,9 @@ use Rattle.analog.proofs.Complement.{held}
 use Rattle.w83782d_record.specs.declared.samples.Sample.{Sample}
 use Rattle.w83782d_bus.proofs.registers.Cases.{both}
 use Rattle.w83782d_bus.specs.Bus.{State}
-use Rattle.w83782d_sample.specs.Stored.{halvesOf, sampleAnswer}
+use Rattle.w83782d_sample.specs.Stored.{sampledHalves, sampleAnswer}
 use Rattle.w83782d_sample.specs.Sample.{sampleOf}
-use Rattle.w83782d_claims.specs.SampleClaims.{isStandby, Refused}
+use Rattle.w83782d_claims.specs.SampleClaims.{isStandby, RefusedSample}
 use Rattle.w83782d_claims.proofs.sample.Stores.{sample-answer, refused-state}
 
 -- ---- the three tests in order
@@ -45,19 +45,19 @@ below-5 false false true = lit< tt
 below-5 false false false = lit< tt
 
 module _ (s : State) (x : Sample) where
-  answered : sampleOf s x .answer ≡ inOrder (outside (halvesOf x 2)) (outside (halvesOf x 3)) (isStandby s)
+  answered : sampleOf s x .answer ≡ inOrder (outside (sampledHalves x 2)) (outside (sampledHalves x 3)) (isStandby s)
   unfolding sampleAnswer
   answered = sample-answer s x
 
   pub below : sampleOf s x .answer < 5
-  below = rw answered (below-5 (outside (halvesOf x 2)) (outside (halvesOf x 3)) (isStandby s))
+  below = rw answered (below-5 (outside (sampledHalves x 2)) (outside (sampledHalves x 3)) (isStandby s))
 
-  pub refused : Refused s x
+  pub refused : RefusedSample s x
   refused =
       record {
-        three = ap (λ (a : ℕ). eqb a 3) answered ∙ is-3 (outside (halvesOf x 2)) (outside (halvesOf x 3)) (isStandby s);
-        four = ap (λ (a : ℕ). eqb a 4) answered ∙ is-4 (outside (halvesOf x 2)) (outside (halvesOf x 3)) (isStandby s);
-        accepted = ap (λ (a : ℕ). eqb a 0) answered ∙ is-0 (outside (halvesOf x 2)) (outside (halvesOf x 3)) (isStandby s);
+        three = ap (λ (a : ℕ). eqb a 3) answered ∙ is-3 (outside (sampledHalves x 2)) (outside (sampledHalves x 3)) (isStandby s);
+        four = ap (λ (a : ℕ). eqb a 4) answered ∙ is-4 (outside (sampledHalves x 2)) (outside (sampledHalves x 3)) (isStandby s);
+        accepted = ap (λ (a : ℕ). eqb a 0) answered ∙ is-0 (outside (sampledHalves x 2)) (outside (sampledHalves x 3)) (isStandby s);
         unchanged = refused-state s x;
       }
 
@@ -68,9 +68,9 @@ none-far false true c e = absurd (omega arith)
 none-far false false c e = (refl, refl)
 
 module _ (s : State) (x : Sample) (a : sampleOf s x .answer ≡ 0) where
-  near : (outside (halvesOf x 2) ≡ false) × (outside (halvesOf x 3) ≡ false)
+  near : (outside (sampledHalves x 2) ≡ false) × (outside (sampledHalves x 3) ≡ false)
   unfolding sampleAnswer
-  near = none-far (outside (halvesOf x 2)) (outside (halvesOf x 3)) (isStandby s) (sym (sample-answer s x) ∙ a)
+  near = none-far (outside (sampledHalves x 2)) (outside (sampledHalves x 3)) (isStandby s) (sym (sample-answer s x) ∙ a)
 
-  pub in-range : (n : ℕ) → 2 ≤ n → n ≤ 3 → holds half9 (halvesOf x n) ≡ true
-  in-range = both (λ n. holds half9 (halvesOf x n) ≡ true) (held (halvesOf x 2) (near .0)) (held (halvesOf x 3) (near .1))
+  pub in-range : (n : ℕ) → 2 ≤ n → n ≤ 3 → holds half9 (sampledHalves x n) ≡ true
+  in-range = both (λ n. holds half9 (sampledHalves x n) ≡ true) (held (sampledHalves x 2) (near .0)) (held (sampledHalves x 3) (near .1))

@@ -29,10 +29,10 @@ use Rattle.w83782d_bus.specs.Registers.{isInterrupt}
 use Rattle.w83782d_bus.proofs.registers.Cases.{both}
 use Rattle.w83782d_bus.specs.Effects.{latches, remoteOf}
 use Rattle.w83782d_bus.specs.Bus.{State}
-use Rattle.w83782d_sample.specs.Stored.{voltage, fanCount, sensor1Value, voltageOf, halvesOf, countOf, readings, storedReadings}
+use Rattle.w83782d_sample.specs.Stored.{voltage, fanCount, sensor1Value, sampledCode, sampledHalves, storedCount, readings, storedReadings}
 use Rattle.w83782d_sample.specs.Conditions.{highLimit, lowLimit, fanLimit, sensor1Over, sensor1Hysteresis, ovtProperty, isOutside, isAbove, isBelow, isSlow, statusMode, outputMode}
 use Rattle.w83782d_sample.proofs.conditions.Rules.{not-one}
-use Rattle.w83782d_sample.specs.Sample.{Source, firstByte, secondByte, realTimeStatus1, statusAt, outputAt, remoteAfter, condition, latchedBy, verdicts, latchedByte, steppedLatches, sampleOf}
+use Rattle.w83782d_sample.specs.Sample.{Source, firstByte, secondByte, realTimeStatus1, statusAt, outputAt, remoteAfter, condition, latchedBy, statusStores, latchedByte, steppedLatches, sampleOf}
 use Rattle.w83782d_sample.specs.Sample.Source.{rail, sensor, fan, chassis}
 use Rattle.w83782d_claims.specs.BusClaims.{cellIn}
 use Rattle.w83782d_claims.specs.SampleClaims.{halvesIn, Stores, after, isBeside, isHotter, isColder, isSlower, holdsFor, flagAt, RealTime, FanRings, statusFor, outputFor, latchesFor, StatusOr, LatchesAfter}
@@ -84,11 +84,11 @@ module _ (s : State) (x : Sample) (w : length (s .registers) ≡ cells) where
   kept c n = stored-other (s .registers) x c n
 
   -- ---- a rail, a fan
-  rail-is : (i : ℕ) → voltage i < cells → given (voltage i) ≡ voltageOf x i → stays (highLimit i) → stays (lowLimit i) → isOutside t i ≡ isBeside s x i
+  rail-is : (i : ℕ) → voltage i < cells → given (voltage i) ≡ sampledCode x i → stays (highLimit i) → stays (lowLimit i) → isOutside t i ≡ isBeside s x i
   unfolding isOutside isBeside
   rail-is i h g m n = simp (at (voltage i) h ∙ g, kept (highLimit i) m, kept (lowLimit i) n)
 
-  fan-is : (f : ℕ) → fanCount f < cells → given (fanCount f) ≡ countOf (s .registers) x f → stays (fanLimit f) → isSlow t f ≡ isSlower s x f
+  fan-is : (f : ℕ) → fanCount f < cells → given (fanCount f) ≡ storedCount (s .registers) x f → stays (fanLimit f) → isSlow t f ≡ isSlower s x f
   unfolding isSlow isSlower
   fan-is f h g n = simp (at (fanCount f) h ∙ g, kept (fanLimit f) n)
 
@@ -107,12 +107,12 @@ module _ (s : State) (x : Sample) (w : length (s .registers) ≡ cells) where
         ∙ level-below half8 (x .sensor1) (cellIn s sensor1Hysteresis) fits (b sensor1Hysteresis)
 
   -- ---- sensors 2 and 3, over the number
-  module _ (b : (c : ℕ) → cellIn s c < 256) (n : ℕ) (h : 2 ≤ n) (k : n ≤ 3) (e : holds half9 (halvesOf x n) ≡ true) where
-    value-is : nineBits (getD t (bankCell n) 0) (getD t (bankCell n + 1) 0) ≡ codeOf half9 (halvesOf x n)
+  module _ (b : (c : ℕ) → cellIn s c < 256) (n : ℕ) (h : 2 ≤ n) (k : n ≤ 3) (e : holds half9 (sampledHalves x n) ≡ true) where
+    value-is : nineBits (getD t (bankCell n) 0) (getD t (bankCell n + 1) 0) ≡ codeOf half9 (sampledHalves x n)
     value-is =
-        both (λ n. nineBits (getD t (bankCell n) 0) (getD t (bankCell n + 1) 0) ≡ nineBits (halfHigh (halfCodeOf (halvesOf x n))) (halfLow (halfCodeOf (halvesOf x n))))
+        both (λ n. nineBits (getD t (bankCell n) 0) (getD t (bankCell n + 1) 0) ≡ nineBits (halfHigh (halfCodeOf (sampledHalves x n))) (halfLow (halfCodeOf (sampledHalves x n))))
         (ap₂ nineBits (at (bankCell 2) (lit< tt)) (at (bankCell 2 + 1) (lit< tt))) (ap₂ nineBits (at (bankCell 3) (lit< tt)) (at (bankCell 3 + 1) (lit< tt))) n h k
-        ∙ nine-code (halvesOf x n) e
+        ∙ nine-code (sampledHalves x n) e
 
     -- a cell of both banks that stays
     kept-in : (f : ℕ → ℕ) → stays (f (bankCell 2)) → stays (f (bankCell 3)) → getD t (f (bankCell n)) 0 ≡ cellIn s (f (bankCell n))
@@ -123,7 +123,7 @@ module _ (s : State) (x : Sample) (w : length (s .registers) ≡ cells) where
     above-n =
         simp (not-one n h)
         (ap₂ (λ (a b : ℕ). ltb (levelOf half9 a) (levelOf half9 b)) (ap₂ nineBits (kept-in (λ c. c + 5) refl refl) (kept-in (λ c. c + 5 + 1) refl refl)) value-is
-        ∙ level-above half9 (halvesOf x n) (nineBits (cellIn s (bankCell n + 5)) (cellIn s (bankCell n + 5 + 1))) e
+        ∙ level-above half9 (sampledHalves x n) (nineBits (cellIn s (bankCell n + 5)) (cellIn s (bankCell n + 5 + 1))) e
         (nine-lt _ _ (b (bankCell n + 5)) (b (bankCell n + 5 + 1))))
 
     below-n : isBelow t n ≡ isColder s x n
@@ -131,7 +131,7 @@ module _ (s : State) (x : Sample) (w : length (s .registers) ≡ cells) where
     below-n =
         simp (not-one n h)
         (ap₂ (λ (a b : ℕ). ltb (levelOf half9 a) (levelOf half9 b)) value-is (ap₂ nineBits (kept-in (λ c. c + 3) refl refl) (kept-in (λ c. c + 3 + 1) refl refl))
-        ∙ level-below half9 (halvesOf x n) (nineBits (cellIn s (bankCell n + 3)) (cellIn s (bankCell n + 3 + 1))) e
+        ∙ level-below half9 (sampledHalves x n) (nineBits (cellIn s (bankCell n + 3)) (cellIn s (bankCell n + 3 + 1))) e
         (nine-lt _ _ (b (bankCell n + 3)) (b (bankCell n + 3 + 1))))
 
   -- ---- the modes that a sample finds
@@ -167,10 +167,10 @@ module _ (s : State) (x : Sample) (w : length (s .registers) ≡ cells) (a : sam
   )
 
   -- ---- the readings themselves
-  reading : (c : ℕ) → c < cells → cellIn (after s x) c ≡ lastOf (verdicts (t s x w) (s .latches)) c (given s x w c)
+  reading : (c : ℕ) → c < cells → cellIn (after s x) c ≡ lastOf (statusStores (t s x w) (s .latches)) c (given s x w c)
   reading c h = left-at s x c a (rw (w) h)
 
-  codes : (i : ℕ) → i < 7 → cellIn (after s x) (voltage i) ≡ voltageOf x i
+  codes : (i : ℕ) → i < 7 → cellIn (after s x) (voltage i) ≡ sampledCode x i
   codes zero h = reading 0 (lit< tt)
   codes (suc zero) h = reading 1 (lit< tt)
   codes (suc (suc zero)) h = reading 2 (lit< tt)
@@ -180,7 +180,7 @@ module _ (s : State) (x : Sample) (w : length (s .registers) ≡ cells) (a : sam
   codes (suc (suc (suc (suc (suc (suc zero)))))) h = reading 6 (lit< tt)
   codes (suc (suc (suc (suc (suc (suc (suc i))))))) h = absurd (omega arith)
 
-  counts : (f : ℕ) → 1 ≤ f → f ≤ 3 → cellIn (after s x) (fanCount f) ≡ countOf (s .registers) x f
+  counts : (f : ℕ) → 1 ≤ f → f ≤ 3 → cellIn (after s x) (fanCount f) ≡ storedCount (s .registers) x f
   counts zero h k = absurd (omega arith)
   counts (suc zero) h k = reading (fanCount 1) (lit< tt)
   counts (suc (suc zero)) h k = reading (fanCount 2) (lit< tt)
@@ -188,17 +188,17 @@ module _ (s : State) (x : Sample) (w : length (s .registers) ≡ cells) (a : sam
   counts (suc (suc (suc (suc f)))) h k = absurd (omega arith)
 
   nine-stored : (n : ℕ) → 2 ≤ n → n ≤ 3
-      → nineBits (cellIn (after s x) (bankCell n)) (cellIn (after s x) (bankCell n + 1)) ≡ nineBits (halfHigh (halfCodeOf (halvesOf x n))) (halfLow (halfCodeOf (halvesOf x n)))
+      → nineBits (cellIn (after s x) (bankCell n)) (cellIn (after s x) (bankCell n + 1)) ≡ nineBits (halfHigh (halfCodeOf (sampledHalves x n))) (halfLow (halfCodeOf (sampledHalves x n)))
   nine-stored =
       both
-      (λ n. nineBits (cellIn (after s x) (bankCell n)) (cellIn (after s x) (bankCell n + 1)) ≡ nineBits (halfHigh (halfCodeOf (halvesOf x n))) (halfLow (halfCodeOf (halvesOf x n))))
+      (λ n. nineBits (cellIn (after s x) (bankCell n)) (cellIn (after s x) (bankCell n + 1)) ≡ nineBits (halfHigh (halfCodeOf (sampledHalves x n))) (halfLow (halfCodeOf (sampledHalves x n))))
       (ap₂ nineBits (reading (bankCell 2) (lit< tt)) (reading (bankCell 2 + 1) (lit< tt)))
       (ap₂ nineBits (reading (bankCell 3) (lit< tt)) (reading (bankCell 3 + 1) (lit< tt)))
 
-  halves-are : (n : ℕ) → 2 ≤ n → n ≤ 3 → halvesIn (after s x) (bankCell n) ≡ halvesOf x n
+  halves-are : (n : ℕ) → 2 ≤ n → n ≤ 3 → halvesIn (after s x) (bankCell n) ≡ sampledHalves x n
   halves-are n h k =
       let e = in-range s x a n h k in
-      ap (signedOf half9) (nine-stored n h k ∙ nine-code (halvesOf x n) e) ∙ twos-complement-holds .back half9 (halvesOf x n) e
+      ap (signedOf half9) (nine-stored n h k ∙ nine-code (sampledHalves x n) e) ∙ twos-complement-holds .back half9 (sampledHalves x n) e
 
   pub stores : Fits x → Stores s x
   stores fits =

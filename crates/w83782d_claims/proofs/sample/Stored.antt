@@ -27,10 +27,10 @@ use Rattle.w83782d_map.specs.Map.{cells, bankAt, indexAt, configuration, interr
 use Rattle.w83782d_bus.specs.Registers.{isInterrupt}
 use Rattle.w83782d_bus.proofs.registers.Cases.{both}
 use Rattle.w83782d_bus.specs.Bus.{State}
-use Rattle.w83782d_sample.specs.Stored.{Store, puts, none, voltage, fanCount, sensor1Value, divisorPlaces, divisorOf, countOf, readings, storedReadings, sampleAnswer}
+use Rattle.w83782d_sample.specs.Stored.{Store, puts, none, voltage, fanCount, sensor1Value, divisorPlaces, divisorOf, storedCount, readings, storedReadings, sampleAnswer}
 use Rattle.w83782d_sample.specs.Conditions.{highLimit, lowLimit, fanLimit, sensor1Over, sensor1Hysteresis, ovtProperty, isOutside, isAbove, isBelow, isSlow, statusMode, outputMode}
 use Rattle.w83782d_sample.proofs.conditions.Rules.{not-one}
-use Rattle.w83782d_sample.specs.Sample.{statusAt, outputAt, remoteAfter, latchedBy, verdicts, judgedRegisters, steppedLatches, sampleOf}
+use Rattle.w83782d_sample.specs.Sample.{statusAt, outputAt, remoteAfter, latchedBy, statusStores, statusRegisters, steppedLatches, sampleOf}
 use Rattle.w83782d_sample.specs.Sample.Source.{sensor}
 use Rattle.w83782d_readings.specs.Outputs.{smiMask1, smiMask2, smiOf}
 use Rattle.w83782d_claims.specs.BusClaims.{Whole, cellIn}
@@ -119,7 +119,7 @@ module _ (rs ts : List ℕ) (e : Same rs ts) where
   unfolding divisorAt
   divisor-same f h = ap fromBits (gather-same (divisorPlaces f) h)
 
-  count-same : (x : Sample) (f : ℕ) → allRuled (divisorPlaces f) ≡ true → countOf rs x f ≡ countOf ts x f
+  count-same : (x : Sample) (f : ℕ) → allRuled (divisorPlaces f) ≡ true → storedCount rs x f ≡ storedCount ts x f
   count-same x f h = ap (λ (d : Divisor). storedOf (getD (x .counts) (f - 1) none .0) (valueOf d)) (divisor-same f h)
 
   readings-same : (x : Sample) → readings rs x ≡ readings ts x
@@ -213,10 +213,10 @@ module _ (rs ts : List ℕ) (e : Same rs ts) where
   unfolding outputAt
   remote-same l n h k = rw (status-same l n (above-n n h k) (below-n n h k), output-mode n h k, above-n n h k, below-n n h k)
 
-  -- ---- the verdicts and the latches
-  verdicts-same : (l : Latches) → verdicts rs l ≡ verdicts ts l
+  -- ---- the statusStores and the latches
+  statusStores-same : (l : Latches) → statusStores rs l ≡ statusStores ts l
   unfolding ruleless
-  verdicts-same l =
+  statusStores-same l =
       simp (
         e .cell interruptStatus1 refl,
         e .cell interruptStatus2 refl,
@@ -238,9 +238,9 @@ module _ (rs ts : List ℕ) (e : Same rs ts) where
         slow-same 3 refl refl,
       )
 
-  judged-same : (l : Latches) → Same (judgedRegisters rs l) (judgedRegisters ts l)
-  unfolding judgedRegisters
-  judged-same l = subst (λ (ws : List Store). Same (puts rs ws) (judgedRegisters ts l)) (sym (verdicts-same l)) (puts-same (verdicts ts l) rs ts e)
+  evaluation-same : (l : Latches) → Same (statusRegisters rs l) (statusRegisters ts l)
+  unfolding statusRegisters
+  evaluation-same l = subst (λ (ws : List Store). Same (puts rs ws) (statusRegisters ts l)) (sym (statusStores-same l)) (puts-same (statusStores ts l) rs ts e)
 
   stepped-same : (l : Latches) → steppedLatches rs l ≡ steppedLatches ts l
   unfolding steppedLatches
@@ -276,7 +276,7 @@ module _ (s t : State) (x : Sample) (ws : Whole s) (wt : Whole t) (a : Alike s t
       go : Dec (sampleOf s x .answer ≡ 0) → Same (after s x .registers) (after t x .registers)
       go (yes q) =
           rw (accepted-state s x q, accepted-state t x (sym answers ∙ q), ← (a .latches))
-          (judged-same (storedReadings (s .registers) x) (storedReadings (t .registers) x) now (s .latches))
+          (evaluation-same (storedReadings (s .registers) x) (storedReadings (t .registers) x) now (s .latches))
       go (no n) = rw (refused-state s x n, refused-state t x (λ z. n (answers ∙ z))) before
 
   left-latches : after s x .latches ≡ after t x .latches

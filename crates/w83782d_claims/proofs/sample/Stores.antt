@@ -18,7 +18,7 @@ use Rattle.w83782d_bus.specs.declared.latches.Latches.{Latches}
 use Rattle.w83782d_map.specs.Map.{cells, bankAt, indexAt}
 use Rattle.w83782d_bus.specs.Bus.{State, Written}
 use Rattle.w83782d_sample.specs.Stored.{Store, puts, readings, storedReadings, sampleAnswer}
-use Rattle.w83782d_sample.specs.Sample.{verdicts, judgedRegisters, steppedLatches, sampledState, sampleOf}
+use Rattle.w83782d_sample.specs.Sample.{statusStores, statusRegisters, steppedLatches, sampledState, sampleOf}
 use Rattle.w83782d_claims.specs.BusClaims.{cellIn}
 use Rattle.w83782d_claims.specs.SampleClaims.{after, touched, Frame}
 
@@ -59,7 +59,7 @@ puts-other (w ∷ ws) rs c e =
     let o = off (eqb c (w .cell)) (isOf c (cellsOf ws)) e in
     puts-other ws (set rs (w .cell) (w .byte)) c (o .1) ∙ getD-set-other rs (w .cell) c (w .byte) 0 (eqb-false c (w .cell) (o .0))
 
--- ---- readings and verdicts
+-- ---- readings and statusStores
 pub stored-at : (rs : List ℕ) (x : Sample) (c : ℕ) → c < length rs → getD (storedReadings rs x) c 0 ≡ lastOf (readings rs x) c (getD rs c 0)
 unfolding storedReadings
 stored-at rs x c h = puts-at (readings rs x) rs c h
@@ -72,17 +72,17 @@ pub stored-length : (rs : List ℕ) (x : Sample) → length (storedReadings rs x
 unfolding storedReadings
 stored-length rs x = puts-length (readings rs x) rs
 
-judged-at : (rs : List ℕ) (l : Latches) (c : ℕ) → c < length rs → getD (judgedRegisters rs l) c 0 ≡ lastOf (verdicts rs l) c (getD rs c 0)
-unfolding judgedRegisters
-judged-at rs l c h = puts-at (verdicts rs l) rs c h
+evaluation-at : (rs : List ℕ) (l : Latches) (c : ℕ) → c < length rs → getD (statusRegisters rs l) c 0 ≡ lastOf (statusStores rs l) c (getD rs c 0)
+unfolding statusRegisters
+evaluation-at rs l c h = puts-at (statusStores rs l) rs c h
 
-judged-other : (rs : List ℕ) (l : Latches) (c : ℕ) → isOf c (cellsOf (verdicts rs l)) ≡ false → getD (judgedRegisters rs l) c 0 ≡ getD rs c 0
-unfolding judgedRegisters
-judged-other rs l c n = puts-other (verdicts rs l) rs c n
+evaluation-other : (rs : List ℕ) (l : Latches) (c : ℕ) → isOf c (cellsOf (statusStores rs l)) ≡ false → getD (statusRegisters rs l) c 0 ≡ getD rs c 0
+unfolding statusRegisters
+evaluation-other rs l c n = puts-other (statusStores rs l) rs c n
 
-judged-length : (rs : List ℕ) (l : Latches) → length (judgedRegisters rs l) ≡ length rs
-unfolding judgedRegisters
-judged-length rs l = puts-length (verdicts rs l) rs
+evaluation-length : (rs : List ℕ) (l : Latches) → length (statusRegisters rs l) ≡ length rs
+unfolding statusRegisters
+evaluation-length rs l = puts-length (statusStores rs l) rs
 
 -- ---- a sample
 pub sample-answer : (s : State) (x : Sample) → sampleOf s x .answer ≡ sampleAnswer (s .registers) x
@@ -104,11 +104,11 @@ refused-state s x =
 
 -- what an accepted sample leaves in a cell
 pub left-at : (s : State) (x : Sample) (c : ℕ) → sampleOf s x .answer ≡ 0 → c < length (s .registers)
-    → cellIn (after s x) c ≡ lastOf (verdicts (storedReadings (s .registers) x) (s .latches)) c (lastOf (readings (s .registers) x) c (cellIn s c))
+    → cellIn (after s x) c ≡ lastOf (statusStores (storedReadings (s .registers) x) (s .latches)) c (lastOf (readings (s .registers) x) c (cellIn s c))
 left-at s x c a h =
     ap (λ (t : State). cellIn t c) (accepted-state s x a)
-    ∙ judged-at (storedReadings (s .registers) x) (s .latches) c (rw stored-length h)
-    ∙ ap (lastOf (verdicts (storedReadings (s .registers) x) (s .latches)) c) (stored-at (s .registers) x c h)
+    ∙ evaluation-at (storedReadings (s .registers) x) (s .latches) c (rw stored-length h)
+    ∙ ap (lastOf (statusStores (storedReadings (s .registers) x) (s .latches)) c) (stored-at (s .registers) x c h)
 
 -- ---- the frame
 -- the cells of the stores, and of the registers that may change
@@ -142,10 +142,10 @@ module _ (s : State) (x : Sample) where
   unfolding steppedLatches
   sampled-frame =
       record {
-        count = judged-length (storedReadings (s .registers) x) (s .latches) ∙ stored-length (s .registers) x;
+        count = evaluation-length (storedReadings (s .registers) x) (s .latches) ∙ stored-length (s .registers) x;
         others = λ c h n.
             let m : isOf c stores ≡ false = sym (touched-cells c h) ∙ n in
-            judged-other (storedReadings (s .registers) x) (s .latches) c (fewer (cellsOf (verdicts (storedReadings (s .registers) x) (s .latches))) stores c refl m)
+            evaluation-other (storedReadings (s .registers) x) (s .latches) c (fewer (cellsOf (statusStores (storedReadings (s .registers) x) (s .latches))) stores c refl m)
             ∙ stored-other (s .registers) x c (fewer (cellsOf (readings (s .registers) x)) stores c refl m);
         chassis = refl;
       }

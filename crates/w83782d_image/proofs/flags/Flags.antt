@@ -16,7 +16,7 @@ use Rattle.sensor.specs.Sensor.{remote, output, armed}
 use Rattle.sensor.specs.declared.Mark.the-variants.{Armed, Hot}
 use Rattle.sensor.specs.declared.Remote.{Remote}
 use Rattle.w83782d_bus.specs.declared.latches.Latches.{Latches}
-use Rattle.w83782d_image.specs.Image.{imageLength, flagOf, markOf, flagByte, markByte, remoteBytes, flagBytes, latchesIn, putFrom}
+use Rattle.w83782d_image.specs.Image.{imageLength, isSet, markFrom, flagByte, markByte, remoteBytes, flagBytes, latchesIn, putFrom}
 use Rattle.w83782d_image.proofs.Images.{put-whole}
 
 -- ---- stores
@@ -32,13 +32,13 @@ pub put-eight : (im s t u v : List ℕ) (l : Latches) → length im ≡ imageLen
 put-eight im s t u v l h es et eu ev = ev ∙ (rw (eu, et, es)) ∙ sym (put-whole im 112 (flagBytes l) h)
 
 -- ---- looks
-pub flag-look : (x : ℕ) (im : List ℕ) (at : ℕ) → x ≡ getD im at 0 → not (eqb x 0) ≡ flagOf (getD im at 0)
-flag-look x im at e = ap flagOf e
+pub flag-look : (x : ℕ) (im : List ℕ) (at : ℕ) → x ≡ getD im at 0 → not (eqb x 0) ≡ isSet (getD im at 0)
+flag-look x im at e = ap isSet e
 
-pub mark-armed : (x : ℕ) (im : List ℕ) (at : ℕ) → x ≡ getD im at 0 → x ≡ 0 → Armed ≡ markOf (getD im at 0)
+pub mark-armed : (x : ℕ) (im : List ℕ) (at : ℕ) → x ≡ getD im at 0 → x ≡ 0 → Armed ≡ markFrom (getD im at 0)
 mark-armed x im at e z = simp (← e, z)
 
-pub mark-hot : (x : ℕ) (im : List ℕ) (at : ℕ) → x ≡ getD im at 0 → (x ≡ 0 → ⊥) → Hot ≡ markOf (getD im at 0)
+pub mark-hot : (x : ℕ) (im : List ℕ) (at : ℕ) → x ≡ getD im at 0 → (x ≡ 0 → ⊥) → Hot ≡ markFrom (getD im at 0)
 mark-hot x im at e n = simp (← e, ne-eqb x 0 n)
 
 -- ---- bytes stored one after another from a place on, each a function of its place
@@ -80,23 +80,23 @@ pub clears-next : (im s t : List ℕ) (at : ℕ) → 120 ≤ at → s ≡ sets i
 clears-next im s t at h es et = fills-next cleared-byte im s 120 at h es t et
 
 -- a flag as it is written
-abbrev pub tidied : List ℕ → ℕ → ℕ
-tidied im i = flagByte (flagOf (getD im i 0))
+abbrev pub normalised : List ℕ → ℕ → ℕ
+normalised im i = flagByte (isSet (getD im i 0))
 
-pub tidies-next : (im s t : List ℕ) (at b : ℕ) (g : Bool) → 112 ≤ at → s ≡ sets im 112 (tabulate (at - 112) 112 (tidied im)) → g ≡ flagOf (getD s at 0) → b ≡ flagByte g
-    → t ≡ set s at b → t ≡ sets im 112 (tabulate (at + 1 - 112) 112 (tidied im))
-tidies-next im s t at b g h es eg eb et =
-    let e : b ≡ tidied im at = eb ∙ ap flagByte (eg ∙ ap flagOf (next-byte (tidied im) im s 112 at h es)) in
-    fills-next (tidied im) im s 112 at h es t (et ∙ ap (set s at) e)
+pub normalises-next : (im s t : List ℕ) (at b : ℕ) (g : Bool) → 112 ≤ at → s ≡ sets im 112 (tabulate (at - 112) 112 (normalised im)) → g ≡ isSet (getD s at 0) → b ≡ flagByte g
+    → t ≡ set s at b → t ≡ sets im 112 (tabulate (at + 1 - 112) 112 (normalised im))
+normalises-next im s t at b g h es eg eb et =
+    let e : b ≡ normalised im at = eb ∙ ap flagByte (eg ∙ ap isSet (next-byte (normalised im) im s 112 at h es)) in
+    fills-next (normalised im) im s 112 at h es t (et ∙ ap (set s at) e)
 
 mark-flag : (t : Bool) → flagByte (not t) ≡ markByte (choose t Armed Hot)
 mark-flag true = refl
 mark-flag false = refl
 
-tidied-flags : (im : List ℕ) → tabulate 8 112 (tidied im) ≡ flagBytes (latchesIn im)
-tidied-flags im = simp mark-flag
+normalised-flags : (im : List ℕ) → tabulate 8 112 (normalised im) ≡ flagBytes (latchesIn im)
+normalised-flags im = simp mark-flag
 
-pub tidied-all : (im s : List ℕ) (at : ℕ) → length im ≡ imageLength → at ≤ 120 → 120 ≤ at → s ≡ sets im 112 (tabulate (at - 112) 112 (tidied im)) → s ≡ putFrom im 112 (flagBytes (latchesIn im))
-tidied-all im s at w h k es =
+pub normalised-all : (im s : List ℕ) (at : ℕ) → length im ≡ imageLength → at ≤ 120 → 120 ≤ at → s ≡ sets im 112 (tabulate (at - 112) 112 (normalised im)) → s ≡ putFrom im 112 (flagBytes (latchesIn im))
+normalised-all im s at w h k es =
     let e : at - 112 ≡ 8 = omega arith in
-    es ∙ ap (λ (n : ℕ). sets im 112 (tabulate n 112 (tidied im))) e ∙ ap (sets im 112) (tidied-flags im) ∙ sym (put-whole im 112 (flagBytes (latchesIn im)) w)
+    es ∙ ap (λ (n : ℕ). sets im 112 (tabulate n 112 (normalised im))) e ∙ ap (sets im 112) (normalised-flags im) ∙ sym (put-whole im 112 (flagBytes (latchesIn im)) w)

@@ -14,8 +14,8 @@ use Rattle.sensor.specs.declared.Mode.{Mode}
 use Rattle.w83782d_map.specs.Map.{cells, bankCell}
 use Rattle.w83782d_bus.specs.Registers.{isInterrupt}
 use Rattle.w83782d_sample.specs.Stored.{fanCount, sensor1Value}
-use Rattle.w83782d_sample.specs.declared.conditions.Stand.{Stand}
-use Rattle.w83782d_sample.specs.Conditions.{fanLimit, sensor1Over, sensor1Hysteresis, ovtProperty, isOutside, wholeLevelAt, halfLevelAt, isAbove, isBelow, isSlow, modeIf, statusMode, outputMode, standOf, comparedOf}
+use Rattle.w83782d_sample.specs.declared.conditions.Comparison.{Comparison}
+use Rattle.w83782d_sample.specs.Conditions.{fanLimit, sensor1Over, sensor1Hysteresis, ovtProperty, isOutside, wholeLevelAt, halfLevelAt, isAbove, isBelow, isSlow, modeIf, statusMode, outputMode, comparisonOf, comparedOf}
 use Rattle.w83782d_sample.specs.ConditionParts.{nothing, comparedIn}
 
 -- ---- conditions
@@ -39,30 +39,30 @@ pub output-mode-at : (rs : List ℕ) (n : ℕ) (b : Bool) (m : Mode) → b ≡ i
 unfolding outputMode
 output-mode-at rs n b m eb em = em ∙ ap (λ (x : Bool). modeIf (not x)) eb
 
-pub stand-1 : (rs : List ℕ) (t o h : ℕ) (m : Mode) → t ≡ wholeLevelAt rs sensor1Value → o ≡ wholeLevelAt rs sensor1Over → h ≡ wholeLevelAt rs sensor1Hysteresis
-    → m ≡ modeIf (eqb (getD rs sensor1Hysteresis 0) 127) → record { mode = m; above = ltb o t; below = ltb t h } ≡ standOf rs 1
-unfolding standOf statusMode isAbove isBelow
-stand-1 rs t o h m et eo eh em = rw (et, eo, eh, em)
+pub comparison-1 : (rs : List ℕ) (t o h : ℕ) (m : Mode) → t ≡ wholeLevelAt rs sensor1Value → o ≡ wholeLevelAt rs sensor1Over → h ≡ wholeLevelAt rs sensor1Hysteresis
+    → m ≡ modeIf (eqb (getD rs sensor1Hysteresis 0) 127) → record { mode = m; above = ltb o t; below = ltb t h } ≡ comparisonOf rs 1
+unfolding comparisonOf statusMode isAbove isBelow
+comparison-1 rs t o h m et eo eh em = rw (et, eo, eh, em)
 
 -- sensors 2 and 3, over the number
 pub not-one : (n : ℕ) → 2 ≤ n → eqb n 1 ≡ false
 not-one n h = ne-eqb n 1 (λ e. omega arith)
 
-pub stand-remote : (rs : List ℕ) (n c t o h : ℕ) (b : Bool) (m : Mode) → 2 ≤ n → (c ≡ bankCell n) × (c ≤ 80)
+pub comparison-remote : (rs : List ℕ) (n c t o h : ℕ) (b : Bool) (m : Mode) → 2 ≤ n → (c ≡ bankCell n) × (c ≤ 80)
     → t ≡ halfLevelAt rs c → o ≡ halfLevelAt rs (c + 5) → h ≡ halfLevelAt rs (c + 3)
-    → b ≡ isOn (getD rs ovtProperty 0) 6 → m ≡ modeIf b → record { mode = m; above = ltb o t; below = ltb t h } ≡ standOf rs n
-unfolding standOf statusMode isAbove isBelow
-stand-remote rs n c t o h b m hn ec et eo eh eb em =
+    → b ≡ isOn (getD rs ovtProperty 0) 6 → m ≡ modeIf b → record { mode = m; above = ltb o t; below = ltb t h } ≡ comparisonOf rs n
+unfolding comparisonOf statusMode isAbove isBelow
+comparison-remote rs n c t o h b m hn ec et eo eh eb em =
     simp (not-one n hn, ← ec .0, et, eo, eh, em, eb)
 
 -- ---- what a sample finds
 pub compared-short : (rs : List ℕ) → (length rs ≡ cells → ⊥) → nothing ≡ comparedIn rs
 compared-short rs n = simp (ne-eqb (length rs) cells n)
 
-pub compared-all : (rs : List ℕ) (f s : ℕ) (one two three : Stand) (m2 m3 : Mode) → length rs ≡ cells
+pub compared-all : (rs : List ℕ) (f s : ℕ) (one two three : Comparison) (m2 m3 : Mode) → length rs ≡ cells
     → f ≡ word (isOutside rs 0 ∷ isOutside rs 1 ∷ isOutside rs 2 ∷ isOutside rs 3 ∷ false ∷ false ∷ isSlow rs 1 ∷ isSlow rs 2 ∷ [])
     → s ≡ word (isOutside rs 4 ∷ isOutside rs 5 ∷ isOutside rs 6 ∷ isSlow rs 3 ∷ false ∷ false ∷ false ∷ false ∷ [])
-    → one ≡ standOf rs 1 → two ≡ standOf rs 2 → three ≡ standOf rs 3 → m2 ≡ outputMode rs 2 → m3 ≡ outputMode rs 3
+    → one ≡ comparisonOf rs 1 → two ≡ comparisonOf rs 2 → three ≡ comparisonOf rs 3 → m2 ≡ outputMode rs 2 → m3 ≡ outputMode rs 3
     → record { first = f; second = s; one = one; two = two; three = three; output2 = m2; output3 = m3 } ≡ comparedIn rs
 unfolding comparedOf
 compared-all rs f s one two three m2 m3 h ef es e1 e2 e3 g2 g3 =

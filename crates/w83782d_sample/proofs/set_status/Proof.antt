@@ -3,8 +3,8 @@ use Rattle.w83782d_sample.proofs.Rules.{status-set}
 use Rattle.w83782d_sample.proofs.set_status.Statement.{statement}
 use Rattle.w83782d_sample.proofs.set_status.Tie as tie
 
-judge-requires : tie.Need-judge-requires
-judge-requires c κs = search needs
+evaluate-requires : tie.Need-evaluate-requires
+evaluate-requires c κs = search needs
 
 slice-read-status1 : tie.Need-slice-read-status1
 slice-read-status1 c = search needs
@@ -28,13 +28,13 @@ same-length : tie.Need-same-length
 same-length c = search needs
 
 returns : tie.Need-returns
-returns c = status-set _ _ _ (c .before .before .before .before .before .judge .ensures)
+returns c = status-set _ _ _ (c .before .before .before .before .before .evaluate .ensures)
 
 pub set-status-spec : {M : Type 1} → statement M
 set-status-spec =
     tie.close
     (tie.spec
-    judge-requires
+    evaluate-requires
     slice-read-status1
     slice-read-status2
     slice-write-s

@@ -19,7 +19,7 @@ use Rattle.analog.specs.declared.HalfCode.{HalfCode}
 use Rattle.analog.specs.declared.HalfCode.the-variants.{Code, OutOfRange}
 use Rattle.w83782d_record.specs.declared.samples.Sample.{Sample}
 use Rattle.w83782d_map.specs.Map.{cells}
-use Rattle.w83782d_sample.specs.Stored.{fanCount, divisorPlaces, divisorOf, halvesOf, countOf, storedReadings, isStopped, sampleAnswer}
+use Rattle.w83782d_sample.specs.Stored.{fanCount, divisorPlaces, divisorOf, sampledHalves, storedCount, storedReadings, isStopped, sampleAnswer}
 use Rattle.w83782d_sample.specs.StoredParts.{fieldOf, withCounts, withCodes, withHalves, storedIn}
 
 -- ---- where a divisor's bits lie
@@ -44,12 +44,12 @@ pub bit-3 : (c : ℕ) (r q : Bool) → r ≡ isOn c 0 → not r ≡ false → q 
 bit-3 c r q e t f = simp (← e, not-false r t, ← f)
 
 -- ---- the answer
-module _ (rs : List ℕ) (x : Sample) (b : Bool) (e : b ≡ outside (halvesOf x 2)) where
+module _ (rs : List ℕ) (x : Sample) (b : Bool) (e : b ≡ outside (sampledHalves x 2)) where
   pub answer-2 : b ≡ true → 3 ≡ sampleAnswer rs x
   unfolding sampleAnswer
   answer-2 t = simp (← e, t)
 
-  module _ (n : b ≡ false) (d : Bool) (f : d ≡ outside (halvesOf x 3)) where
+  module _ (n : b ≡ false) (d : Bool) (f : d ≡ outside (sampledHalves x 3)) where
     pub answer-3 : d ≡ true → 3 ≡ sampleAnswer rs x
     unfolding sampleAnswer
     answer-3 t = simp (← e, n, ← f, t)
@@ -71,13 +71,13 @@ pub halves-none : (rs : List ℕ) (c : ℕ) (t : ℤ) (k : HalfCode) → k ≡ h
 unfolding withHalves
 halves-none rs c t k e f = rw (← e, f)
 
-pub counts-stored : (rs : List ℕ) (x : Sample) (a b c : ℕ) → a ≡ countOf rs x 1 → b ≡ countOf rs x 2 → c ≡ countOf rs x 3
+pub counts-stored : (rs : List ℕ) (x : Sample) (a b c : ℕ) → a ≡ storedCount rs x 1 → b ≡ storedCount rs x 2 → c ≡ storedCount rs x 3
     → set (set (set rs (fanCount 1) a) (fanCount 2) b) (fanCount 3) c ≡ withCounts rs x
 unfolding withCounts
 counts-stored rs x a b c ea eb ec = rw (ea, eb, ec)
 
 -- four stores, one after the other, are the list of readings
-pub readings-stored : (rs a b c d : List ℕ) (x : Sample) → a ≡ withCounts rs x → b ≡ withCodes a x → c ≡ withHalves b 64 (halvesOf x 2) → d ≡ withHalves c 80 (halvesOf x 3)
+pub readings-stored : (rs a b c d : List ℕ) (x : Sample) → a ≡ withCounts rs x → b ≡ withCodes a x → c ≡ withHalves b 64 (sampledHalves x 2) → d ≡ withHalves c 80 (sampledHalves x 3)
     → d ≡ storedReadings rs x
 unfolding storedReadings withHalves withCodes withCounts
 readings-stored rs a b c d x e1 e2 e3 e4 = simp (e4, e3, e2, e1)

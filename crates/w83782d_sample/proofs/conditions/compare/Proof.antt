@@ -12,14 +12,14 @@ first-byte-requires c κs = search needs
 second-byte-requires : tie.Need-second-byte-requires
 second-byte-requires c κs = search needs
 
-sensor1-stand-requires : tie.Need-sensor1-stand-requires
-sensor1-stand-requires c κs = search needs
+compare-sensor1-requires : tie.Need-compare-sensor1-requires
+compare-sensor1-requires c κs = search needs
 
-remote-stand-requires : tie.Need-remote-stand-requires
-remote-stand-requires c κs = search needs
+compare-remote-requires : tie.Need-compare-remote-requires
+compare-remote-requires c κs = search needs
 
-remote-stand-requires-2 : tie.Need-remote-stand-requires-2
-remote-stand-requires-2 c κs = search needs
+compare-remote-requires-2 : tie.Need-compare-remote-requires-2
+compare-remote-requires-2 c κs = search needs
 
 output-mode-requires : tie.Need-output-mode-requires
 output-mode-requires c κs = search needs
@@ -37,9 +37,9 @@ compare-spec =
     returns
     first-byte-requires
     second-byte-requires
-    sensor1-stand-requires
-    remote-stand-requires
-    remote-stand-requires-2
+    compare-sensor1-requires
+    compare-remote-requires
+    compare-remote-requires-2
     output-mode-requires
     output-mode-requires-2
     returns-2)

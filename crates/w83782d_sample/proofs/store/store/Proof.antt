@@ -3,7 +3,7 @@ use mathlib.Core.Path.{ap, _∙_}
 use mir.Syntax.{w16}
 use mir.Val.{SFits}
 use mir.ValLaws.{toZ-ofZ}
-use Rattle.w83782d_sample.specs.Stored.{halvesOf}
+use Rattle.w83782d_sample.specs.Stored.{sampledHalves}
 use Rattle.w83782d_sample.specs.StoredParts.{withHalves}
 use Rattle.w83782d_sample.proofs.store.Rules.{readings-stored, stored-short, stored-in}
 use Rattle.w83782d_sample.proofs.store.store.Statement.{statement}
@@ -40,10 +40,10 @@ returns-2 c =
     let k = h .before .before .before .before .before in
     let a = k .before .before .before .before in
     let x = a .before .before .before .before .args .t2 in
-    let f : SFits w16 (halvesOf x 2) = search needs in
-    let g : SFits w16 (halvesOf x 3) = search needs in
-    readings-stored _ _ _ _ _ x (a .store-counts .ensures) (k .store-codes .ensures) (h .store-halves .ensures ∙ ap (withHalves _ 64) (toZ-ofZ w16 (halvesOf x 2) f))
-    (d .store-halves2 .ensures ∙ ap (withHalves _ 80) (toZ-ofZ w16 (halvesOf x 3) g))
+    let f : SFits w16 (sampledHalves x 2) = search needs in
+    let g : SFits w16 (sampledHalves x 3) = search needs in
+    readings-stored _ _ _ _ _ x (a .store-counts .ensures) (k .store-codes .ensures) (h .store-halves .ensures ∙ ap (withHalves _ 64) (toZ-ofZ w16 (sampledHalves x 2) f))
+    (d .store-halves2 .ensures ∙ ap (withHalves _ 80) (toZ-ofZ w16 (sampledHalves x 3) g))
     ∙ stored-in _ x (search needs)
 
 pub store-spec : {M : Type 1} → statement M

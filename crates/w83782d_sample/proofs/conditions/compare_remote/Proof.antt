@@ -1,7 +1,7 @@
 use borrow.Author.Needs.{needs}
-use Rattle.w83782d_sample.proofs.conditions.Rules.{stand-remote}
-use Rattle.w83782d_sample.proofs.conditions.remote_stand.Statement.{statement}
-use Rattle.w83782d_sample.proofs.conditions.remote_stand.Tie as tie
+use Rattle.w83782d_sample.proofs.conditions.Rules.{comparison-remote}
+use Rattle.w83782d_sample.proofs.conditions.compare_remote.Statement.{statement}
+use Rattle.w83782d_sample.proofs.conditions.compare_remote.Tie as tie
 
 bank-cell-requires : tie.Need-bank-cell-requires
 bank-cell-requires c κs = search needs
@@ -31,10 +31,10 @@ mode-if-requires : tie.Need-mode-if-requires
 mode-if-requires c κs = search needs
 
 returns : tie.Need-returns
-returns c = search (needs, stand-remote)
+returns c = search (needs, comparison-remote)
 
-pub remote-stand-spec : {M : Type 1} → statement M
-remote-stand-spec =
+pub compare-remote-spec : {M : Type 1} → statement M
+compare-remote-spec =
     tie.close
     (tie.spec
     bank-cell-requires

@@ -8,13 +8,13 @@ use lib.Seq.{sets}
 use borrow.Author.Needs.{needs}
 use Rattle.bits.specs.Map.{tabulate}
 use Rattle.w83782d_image.proofs.Images.{put-none}
-use Rattle.w83782d_image.proofs.flags.Flags.{tidied, tidies-next, tidied-all}
-use Rattle.w83782d_image.proofs.flags.tidy.Statement.{statement}
-use Rattle.w83782d_image.proofs.flags.tidy.Tie as tie
+use Rattle.w83782d_image.proofs.flags.Flags.{normalised, normalises-next, normalised-all}
+use Rattle.w83782d_image.proofs.flags.normalise_flags.Statement.{statement}
+use Rattle.w83782d_image.proofs.flags.normalise_flags.Tie as tie
 
 abbrev Inv-loop : tie.InvT-loop
 Inv-loop image₀ at₀ image at =
-    (112 ≤ at) × (at ≤ 120) × (length image ≡ length image₀) × (image ≡ sets image₀ 112 (tabulate (at - 112) 112 (tidied image₀)))
+    (112 ≤ at) × (at ≤ 120) × (length image ≡ length image₀) × (image ≡ sets image₀ 112 (tabulate (at - 112) 112 (normalised image₀)))
 
 abbrev μ-loop : tie.MeasureT-loop
 μ-loop image₀ at₀ image at = 120 - at
@@ -50,17 +50,17 @@ loop-again c =
       omega arith,
       omega arith,
       search needs,
-      tidies-next (turn .before .before .before .args .image .now) _ _ _ _ _ (inv .0) (inv .3) (look .flag-at .ensures) (byte .flag-byte .ensures) (put .put .ensures),
+      normalises-next (turn .before .before .before .args .image .now) _ _ _ _ _ (inv .0) (inv .3) (look .flag-at .ensures) (byte .flag-byte .ensures) (put .put .ensures),
     )
 
 same-length : tie.Need-same-length Inv-loop μ-loop
 same-length c = search needs
 
 returns-2 : tie.Need-returns-2 Inv-loop μ-loop
-returns-2 c = search (needs, tidied-all)
+returns-2 c = search (needs, normalised-all)
 
-pub tidy-spec : {M : Type 1} → statement M
-tidy-spec =
+pub normalise-flags-spec : {M : Type 1} → statement M
+normalise-flags-spec =
     tie.close
     (tie.spec
     Inv-loop

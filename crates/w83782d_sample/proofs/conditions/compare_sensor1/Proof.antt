@@ -1,7 +1,7 @@
 use borrow.Author.Needs.{needs}
-use Rattle.w83782d_sample.proofs.conditions.Rules.{stand-1}
-use Rattle.w83782d_sample.proofs.conditions.sensor1_stand.Statement.{statement}
-use Rattle.w83782d_sample.proofs.conditions.sensor1_stand.Tie as tie
+use Rattle.w83782d_sample.proofs.conditions.Rules.{comparison-1}
+use Rattle.w83782d_sample.proofs.conditions.compare_sensor1.Statement.{statement}
+use Rattle.w83782d_sample.proofs.conditions.compare_sensor1.Tie as tie
 
 shared-slice-read-whole-level : tie.Need-shared-slice-read-whole-level
 shared-slice-read-whole-level c = search needs
@@ -28,10 +28,10 @@ mode-if-requires : tie.Need-mode-if-requires
 mode-if-requires c κs = search needs
 
 returns : tie.Need-returns
-returns c = search (needs, stand-1)
+returns c = search (needs, comparison-1)
 
-pub sensor1-stand-spec : {M : Type 1} → statement M
-sensor1-stand-spec =
+pub compare-sensor1-spec : {M : Type 1} → statement M
+compare-sensor1-spec =
     tie.close
     (tie.spec
     shared-slice-read-whole-level

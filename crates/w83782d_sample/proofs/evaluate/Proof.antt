@@ -1,7 +1,7 @@
 use borrow.Author.Needs.{needs}
-use Rattle.w83782d_sample.proofs.Rules.{judged}
-use Rattle.w83782d_sample.proofs.judge.Statement.{statement}
-use Rattle.w83782d_sample.proofs.judge.Tie as tie
+use Rattle.w83782d_sample.proofs.Rules.{evaluation}
+use Rattle.w83782d_sample.proofs.evaluate.Statement.{statement}
+use Rattle.w83782d_sample.proofs.evaluate.Tie as tie
 
 element-copy-out-p : tie.Need-element-copy-out-p
 element-copy-out-p c = search needs
@@ -43,11 +43,11 @@ returns c =
     let two = three .before in
     let one = two .before in
     let found = one .before .before .before .before in
-    judged _ _ _ _ _ _ _ _ _ _ (found .before .before .before .before .pre) (found .compare .ensures) (one .status-step .ensures) (two .remote-step .ensures) (three .remote-step2 .ensures)
+    evaluation _ _ _ _ _ _ _ _ _ _ (found .before .before .before .before .pre) (found .compare .ensures) (one .status-step .ensures) (two .remote-step .ensures) (three .remote-step2 .ensures)
     (real1 .sensors .ensures) (real2 .sensors2 .ensures) (latched1 .sensors3 .ensures) (latched2 .sensors4 .ensures)
 
-pub judge-spec : {M : Type 1} → statement M
-judge-spec =
+pub evaluate-spec : {M : Type 1} → statement M
+evaluate-spec =
     tie.close
     (tie.spec
     element-copy-out-p

@@ -6,6 +6,7 @@ use mathlib.Core.List.{List, [], _∷_, _++_}
 use Prim.Native.Nat.{ℕ, suc, _-_}
 use lib.Dec.{eqb, ltb}
 use lib.ListN.{getD, set}
+use Rattle.answers.specs.Answers as answers
 use Rattle.bits.specs.Bits.{choose, bit, isOn, word, Change, change, changes, isBeyond}
 use Rattle.bits.specs.declared.Bit.{Bit}
 use Rattle.bits.specs.declared.Bit.the-variants.{B0, B1, B2, B4, B5, B6}
@@ -69,10 +70,10 @@ registersAfter rs (putBack a b k₁ k₂) = changes rs (back a b k₁ k₂)
 
 -- cells from 4 on are not written, and samples wait for start
 abbrev pub answerTo : State → Call → ℕ
-answerTo s (write k v) = choose (ltb k 4) 0 2
+answerTo s (write k v) = choose (ltb k 4) 0 answers.readOnly
 answerTo s look = 0
-answerTo s (sample a b) = choose (isOn (getD (s .registers) 0 0) 0) 0 4
-answerTo s (setPlan f w) = choose (isBeyond 2 f) 7 (planAnswer (planOf w))
+answerTo s (sample a b) = choose (isOn (getD (s .registers) 0 0) 0) 0 answers.stopped
+answerTo s (setPlan f w) = choose (isBeyond 2 f) answers.noChannel (planAnswer (planOf w))
 answerTo s (putBack a b k₁ k₂) = 0
 
 abbrev pub looksAfter : ℕ → Call → ℕ

@@ -6,6 +6,7 @@ use mathlib.Core.List.{List, [], _∷_}
 use lib.Dec.{leb, ltb}
 use lib.IntN.{ℤ, pos, negsuc, negℤ, _-ℤ_}
 use lib.ListN.{getD}
+use Rattle.answers.specs.Answers as answers
 use Rattle.bits.specs.Bits.{choose}
 use Rattle.rounding.specs.Rounding.{nearest}
 use Rattle.analog.specs.declared.voltages.Reading.{Reading}
@@ -14,8 +15,8 @@ use Rattle.analog.specs.declared.voltages.Reading.the-variants.{Millivol
 -- the number of the answer table; 8 by decision D-01
 abbrev pub readingAnswer : Reading → ℕ
 readingAnswer (Millivolts z) = 0
-readingAnswer Refused = 7
-readingAnswer WrongLength = 8
+readingAnswer Refused = answers.noChannel
+readingAnswer WrongLength = answers.wrongLength
 
 -- the millivolts that are read; refused: 0
 abbrev pub readingValue : Reading → ℤ
@@ -58,7 +59,7 @@ millivoltsOf channel c r5 r6 = getD (voltages c r5 r6) channel Refused
 
 -- A-7: a channel above 6, or, on channels 5 and 6 only, what is no resistor
 abbrev pub answerFor : ℕ → ℕ → ℕ → ℕ
-answerFor channel r5 r6 = choose (ltb 6 channel || ltb 4 channel && not (isResistor r5 && isResistor r6)) 7 0
+answerFor channel r5 r6 = choose (ltb 6 channel || ltb 4 channel && not (isResistor r5 && isResistor r6)) answers.noChannel 0
 
 -- a reading is refused exactly when the answer table says so
 pub record VoltageAnswers : Type 0 where

@@ -6,6 +6,7 @@ use mathlib.Core.Bool.{Bool, true, not, _||_}
 use lib.Dec.{ltb}
 use lib.IntN.{ℤ, pos, negsuc, negℤ}
 use lib.Signed.{ltZ}
+use Rattle.answers.specs.Answers as answers
 use Rattle.bits.specs.Bits.{choose}
 use Rattle.analog.specs.declared.HalfCode.{HalfCode}
 use Rattle.analog.specs.declared.HalfCode.the-variants.{Code, OutOfRange}
@@ -51,7 +52,7 @@ halfCodeOf z = choose (outside z) OutOfRange (Code (codeOf half9 z / 2) (codeOf 
 -- the answer: A-3 out of range
 abbrev pub halfAnswer : HalfCode → ℕ
 halfAnswer (Code high low) = 0
-halfAnswer OutOfRange = 3
+halfAnswer OutOfRange = answers.badTemperature
 
 -- the bytes of a code; refused: none, as 0
 abbrev pub halfHigh : HalfCode → ℕ

@@ -3,6 +3,7 @@ use Prim.Native.Nat.{ℕ, _+_, _*_, _/_, _^_, _≤_, _<_}
 use mathlib.Core.Path.{_≡_}
 use mathlib.Core.Bool.{Bool, true, _||_}
 use lib.Dec.{eqb, leb, ltb}
+use Rattle.answers.specs.Answers as answers
 use Rattle.bits.specs.Bits.{choose}
 use Rattle.fan.specs.declared.planner.Planned.{Planned}
 use Rattle.fan.specs.declared.planner.Planned.the-variants.{Plan, Refused}
@@ -11,7 +12,7 @@ use Rattle.fan.specs.Count.{perMinute, valueOf, IsDivisor, storedOf, cou
 -- the answer: a plan is accepted, none is A-6
 abbrev pub planAnswer : Planned → ℕ
 planAnswer (Plan d l) = 0
-planAnswer Refused = 6
+planAnswer Refused = answers.badSpeed
 
 -- the divisor d of a plan; of none 0
 abbrev pub planDivisor : Planned → ℕ
@@ -47,7 +48,7 @@ isNoSpeed w = eqb w 0 || ltb perMinute w
 
 -- it is answered 6, any other is accepted
 abbrev pub answerFor : ℕ → ℕ
-answerFor w = choose (isNoSpeed w) 6 0
+answerFor w = choose (isNoSpeed w) answers.badSpeed 0
 
 -- the planner's answer to w: refused exactly when the table says so, and otherwise the plan
 pub record IsPlanned (w : ℕ) (p : Planned) : Type 0 where

@@ -1,6 +1,7 @@
 -- The speed reading (rule R-2).
 use Prim.Native.Nat.{ℕ, _*_}
 use lib.Dec.{eqb}
+use Rattle.answers.specs.Answers as answers
 use Rattle.bits.specs.Bits.{choose}
 use Rattle.rounding.specs.Rounding.{nearest}
 use Rattle.fan.specs.declared.Speed.{Speed}
@@ -12,8 +13,8 @@ abbrev pub speedAnswer : Speed → ℕ
 speedAnswer (Rpm n) = 0
 speedAnswer TooFast = 0
 speedAnswer TooSlow = 0
-speedAnswer Refused = 7
-speedAnswer WrongLength = 8
+speedAnswer Refused = answers.noChannel
+speedAnswer WrongLength = answers.wrongLength
 
 -- the number that is read; 0 where there is none
 abbrev pub speedValue : Speed → ℕ

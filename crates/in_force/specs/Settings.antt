@@ -4,6 +4,7 @@ use mathlib.Core.List.{List, [], _∷_}
 use Prim.Native.Nat.{ℕ}
 use lib.Dec.{eqb, ltb}
 use lib.ListN.{length, getD}
+use Rattle.answers.specs.Answers as answers
 use Rattle.bits.specs.Bits.{choose, isBeyond, Change, change, changes}
 use Rattle.bits.specs.Fields.{digitsOf, distinct, apart, inside}
 use Rattle.bits.specs.declared.fields.Place.{Place}
@@ -39,7 +40,7 @@ plannedRegisters rs f Refused = rs
 
 -- of n fans: A-7 before A-6
 abbrev pub setAnswer : ℕ → ℕ → ℕ → ℕ
-setAnswer n f w = choose (isBeyond n f) 7 (answerFor w)
+setAnswer n f w = choose (isBeyond n f) answers.noChannel (answerFor w)
 
 -- ---- which settings those may be
 

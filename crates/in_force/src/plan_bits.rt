@@ -3,15 +3,11 @@ ghost use mathlib.Core.Path.{_≡_};
 ghost use Rattle.bits.specs.Fields.{placesOf};
 ghost use Rattle.fan.specs.Plan.{planAnswer};
 ghost use Rattle.in_force.specs.Settings.{fanAt, plannedRegisters};
+use answers::ACCEPTED;
+use answers::BAD_SPEED;
 use bits::fields::Field;
 use bits::store;
 use fan::planner::Planned;
-
-// ---- Answer numbers
-
-const ACCEPTED: u8 = 0;
-
-const BAD_SPEED: u8 = 6;
 
 // A limit is written whole.
 const WHOLE: u8 = 0xff;

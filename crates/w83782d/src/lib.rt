@@ -12,6 +12,7 @@ ghost use Rattle.w83782d_readings.specs.Readings.{voltageOf, speedOf, temperatu
 ghost use Rattle.w83782d.specs.Monitor.{stateOf, powerOnOf, writeOf, readOf, sampleOf, openedOf, setPlanOf, applyOf};
 ghost use Rattle.w83782d.specs.Alarm.{MonitorCalls};
 use analog::voltages::Reading;
+use answers::ACCEPTED;
 use fan::Speed;
 use w83782d_bus::latches::Latches;
 use w83782d_bus::latches::Ovt;
@@ -111,7 +112,7 @@ impl Monitor {
         };
         Answered {
             monitor: self,
-            answer: 0,
+            answer: ACCEPTED,
         }
     }
 

@@ -8,7 +8,8 @@ use borrow.Author.Tests.{eq-eqb, ne-eqb, not-true, not-false}
 use lib.Dec.{eqb}
 use lib.ListN.{length, set}
 use Rattle.bits.specs.Bits.{isOn, change, changes}
-use Rattle.w83782d_map.specs.Map.{cells, presentAt, configuration, interruptStatus1, interruptStatus2}
+use Rattle.w83782d_map.specs.Map.{cells, presentAt}
+use Rattle.w83782d_map.specs.Cells.{configuration, interruptStatus1, interruptStatus2}
 use Rattle.w83782d_map.specs.Access.{writeAnswer, storedBits}
 use Rattle.w83782d_bus.specs.Registers.{reachOf, powerOnRegisters, resetRegisters, shownOf}
 use Rattle.w83782d_bus.specs.Parts.{restoredRegisters, restoredIn}

@@ -4,8 +4,10 @@ use mathlib.Core.List.{List, [], _∷_}
 use Prim.Native.Nat.{ℕ}
 use lib.Dec.{eqb}
 use lib.ListN.{set}
+use Rattle.answers.specs.Answers as answers
 use Rattle.bits.specs.Bits.{choose, isOn, change, changes}
-use Rattle.w83782d_map.specs.Map.{presentAt, configuration, interruptStatus1, interruptStatus2, fits}
+use Rattle.w83782d_map.specs.Map.{presentAt, fits}
+use Rattle.w83782d_map.specs.Cells.{configuration, interruptStatus1, interruptStatus2}
 use Rattle.w83782d_map.specs.Access.{writeAnswer, storedBits}
 use Rattle.w83782d_bus.specs.Registers.{reachOf, powerOnRegisters, resetRegisters, shownOf}
 use Rattle.w83782d_bus.specs.declared.latches.Latches.{Latches}
@@ -66,7 +68,7 @@ abbrev pub readAt : State → ℕ → Read
 readAt s c =
     choose (presentAt c)
     (read (state (readRegisters (s .registers) c) (readLatches (s .registers) (s .latches) c)) 0 (shownOf (s .registers) (s .latches .chassis) c))
-    (read s 1 0)
+    (read s answers.absent 0)
 
 unfoldable pub readOf : State → ℕ → Read
 readOf s i = readAt s (reachOf (s .registers) i)
@@ -74,10 +76,10 @@ readOf s i = readAt s (reachOf (s .registers) i)
 -- ---- in place: a slice that is not the registers' 112 cells is refused as 8, and stays. decision D-01
 -- what the call gives where the slice fits, else 8 with the registers and these latches as they were
 abbrev pub sized : List ℕ → Latches → Written → Written
-sized rs l w = choose (fits rs) w (written (state rs l) 8)
+sized rs l w = choose (fits rs) w (written (state rs l) answers.wrongLength)
 
 abbrev pub sizedRead : List ℕ → Latches → Read → Read
-sizedRead rs l r = choose (fits rs) r (read (state rs l) 8 0)
+sizedRead rs l r = choose (fits rs) r (read (state rs l) answers.wrongLength 0)
 
 abbrev pub writtenIn : List ℕ → ℕ → ℕ → List ℕ
 writtenIn rs c v = choose (fits rs) (writtenRegisters rs c v) rs

@@ -9,7 +9,7 @@ use Rattle.sensor.specs.Sensor.{armed, releasedOf}
 use Rattle.sensor.specs.declared.Mark.{Mark}
 use Rattle.sensor.specs.declared.Mark.the-variants.{Armed}
 use Rattle.sensor.specs.declared.Remote.{Remote}
-use Rattle.w83782d_map.specs.Map.{configuration, chassisClear, bankCell}
+use Rattle.w83782d_map.specs.Cells.{bankCell, chassisClear, configuration}
 use Rattle.w83782d_bus.specs.Registers.{isInterrupt}
 use Rattle.w83782d_bus.specs.declared.latches.Latches.{Latches}
 

@@ -3,6 +3,7 @@ use mathlib.Core.Path.{_≡_}
 use mathlib.Core.Bool.{Bool, _||_}
 use Prim.Native.Nat.{ℕ}
 use lib.Dec.{eqb}
+use Rattle.answers.specs.Answers as answers
 use Rattle.bits.specs.Bits.{choose}
 use Rattle.w83782d_bus.specs.Effects.{remoteOf}
 use Rattle.w83782d_bus.specs.declared.latches.Latches.{Latches}
@@ -13,7 +14,7 @@ use Rattle.w83782d_bus.specs.declared.latches.Ovt.the-variants.{Asserted
 abbrev pub ovtAnswer : Ovt → ℕ
 ovtAnswer Asserted = 0
 ovtAnswer Released = 0
-ovtAnswer Refused = 7
+ovtAnswer Refused = answers.noChannel
 
 abbrev pub shownOvt : Bool → Ovt
 shownOvt asserted = choose asserted Asserted Released

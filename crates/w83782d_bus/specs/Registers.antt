@@ -8,7 +8,8 @@ use lib.Dec.{ltb, leb, eqb}
 use lib.ListN.{getD}
 use Rattle.bits.specs.Bits.{choose, isOn}
 use Rattle.bits.specs.Map.{tabulate}
-use Rattle.w83782d_map.specs.Map.{cells, at, atBank, powerOnAt, keptAt, configuration, interruptStatus2, chassisClear, vidFanDivisor, deviceId, bankSelect, vendorId, chipId, realTimeStatus2, bankCell}
+use Rattle.w83782d_map.specs.Map.{cells, at, atBank, powerOnAt, keptAt}
+use Rattle.w83782d_map.specs.Cells.{bankCell, bankSelect, chassisClear, chipId, configuration, deviceId, interruptStatus2, realTimeStatus2, sensorConfiguration, vendorId, vidFanDivisor}
 
 -- ---- which register an access reaches
 
@@ -45,7 +46,7 @@ isCommand c v = (eqb c configuration || eqb c chassisClear) && isOn v 7
 
 -- ---- O-1: the OVT mode of sensors 2 and 3, each by its own 52h bit 1: 0 comparator, 1 interrupt
 unfoldable pub isInterrupt : List ℕ → ℕ → Bool
-isInterrupt rs n = isOn (getD rs (bankCell n + 2) 0) 1
+isInterrupt rs n = isOn (getD rs (sensorConfiguration (bankCell n)) 0) 1
 
 -- ---- what a read shows
 

@@ -10,15 +10,10 @@ use crate::registers::is_command;
 use crate::registers::is_interrupt;
 use sensor::Mark;
 use sensor::Remote;
-use w83782d_map::BANK_1;
-use w83782d_map::BANK_2;
 use w83782d_map::CHASSIS_CLEAR;
 use w83782d_map::CONFIGURATION;
-
-// 50h of the banks of sensors 2 and 3.
-const SENSOR_2_VALUE: usize = BANK_1;
-
-const SENSOR_3_VALUE: usize = BANK_2;
+use w83782d_map::SENSOR_2;
+use w83782d_map::SENSOR_3;
 
 // What the registers do not hold: the chassis latch, the status mark of sensor 1, and sensors 2 and 3.
 pub struct Latches {
@@ -142,8 +137,8 @@ pub fn read_latches(s: &[u8], l: Latches, cell: usize) -> Latches
     ensures { λ r. ⌜ r ≡ readLatches (now (s .entry)) l cell ⌝ }
 {
     match cell {
-        SENSOR_2_VALUE => acknowledged(s, l, 2),
-        SENSOR_3_VALUE => acknowledged(s, l, 3),
+        SENSOR_2 => acknowledged(s, l, 2),
+        SENSOR_3 => acknowledged(s, l, 3),
         _ => l,
     }
 }

@@ -1,8 +1,6 @@
 // The register side of the W83782D, in place on the registers' slice with the small latches by value:
 // power-on, bus write, bus read and reset.
 ghost use mathlib.Core.Path.{_≡_};
-ghost use lib.ListN.{length};
-ghost use Rattle.w83782d_map.specs.Map.{cells};
 ghost use Rattle.w83782d_bus.specs.Effects.{powerOnLatches};
 ghost use Rattle.w83782d_bus.specs.Bus.{state, powerOn, writtenIn, writeOf, written, readIn, readOf, sized, sizedRead, wroteIn, seenIn};
 
@@ -16,6 +14,9 @@ use crate::registers::is_command;
 use crate::registers::reach;
 use crate::registers::restore;
 use crate::registers::shown;
+use answers::ABSENT;
+use answers::ACCEPTED;
+use answers::WRONG_LENGTH;
 use bits::put;
 use bits::store;
 use w83782d_map::CELLS;
@@ -38,14 +39,6 @@ pub struct Seen {
     pub answer: u8,
     pub byte: u8,
 }
-
-// ---- Answer numbers
-
-const ACCEPTED: u8 = 0;
-
-const ABSENT: u8 = 1;
-
-const WRONG_LENGTH: u8 = 8;
 
 // ---- Power-on and reset
 

@@ -5,13 +5,11 @@ ghost use mathlib.Core.Bool.{_&&_};
 ghost use Prim.Native.Nat.{_≤_};
 ghost use lib.Dec.{eqb};
 ghost use Rattle.bits.specs.Bits.{isOn};
-ghost use Rattle.w83782d_map.specs.Map.{bankCell};
+ghost use Rattle.w83782d_map.specs.Cells.{bankCell};
 ghost use Rattle.w83782d_bus.specs.Registers.{cellOf, reachOf, isInterrupt, withChassis, vendorByte, shownOf};
 ghost use Rattle.w83782d_bus.specs.Parts.{restoredByte, restoredIn};
 use bits::Bit;
 use bits::is_on;
-use w83782d_map::BANK_1;
-use w83782d_map::BANK_2;
 use w83782d_map::BANK_SELECT;
 use w83782d_map::CELLS;
 use w83782d_map::CHASSIS_CLEAR;
@@ -20,13 +18,13 @@ use w83782d_map::CONFIGURATION;
 use w83782d_map::DEVICE_ID;
 use w83782d_map::INTERRUPT_STATUS_2;
 use w83782d_map::REAL_TIME_STATUS_2;
+use w83782d_map::SENSOR_2;
+use w83782d_map::SENSOR_3;
+use w83782d_map::SENSOR_CONFIGURATION;
 use w83782d_map::VENDOR_ID;
 use w83782d_map::VID_FAN_DIVISOR;
 use w83782d_map::is_kept_by_reset;
 use w83782d_map::power_on_byte;
-
-// 52h, from the first cell of the bank of sensor 2 or 3.
-const CONFIGURED: usize = 2;
 
 // ---- The cell that an access reaches
 
@@ -111,16 +109,17 @@ pub fn bank_cell(sensor: usize) -> usize
     ensures { λ r. ⌜ (r ≡ bankCell sensor) × (r ≤ 80) ⌝ }
 {
     if sensor == 2 {
-        return BANK_1;
+        return SENSOR_2;
     }
-    BANK_2
+    SENSOR_3
 }
 
 // Whether the OVT output of sensor 2 or 3 is in interrupt mode, by bit 1 of its own 52h.
 pub fn is_interrupt(s: &[u8], sensor: usize) -> bool
     ensures { λ r. ⌜ r ≡ isInterrupt (now (s .entry)) sensor ⌝ }
 {
-    is_on(bits::cell(s, bank_cell(sensor) + CONFIGURED), Bit::B1)
+    let configuration = bits::cell(s, bank_cell(sensor) + SENSOR_CONFIGURATION);
+    is_on(configuration, Bit::B1)
 }
 
 // ---- What a read shows

@@ -13,7 +13,8 @@ use Rattle.bits.specs.Map.{any, bank, Span, span, among}
 use Rattle.sensor.specs.Sensor.{armed}
 use Rattle.sensor.specs.declared.Remote.{Remote}
 use Rattle.sensor.specs.declared.Mark.the-variants.{Armed}
-use Rattle.w83782d_map.specs.Map.{cells, presentAt, writableAt, powerOnAt, keptAt, configuration, interruptStatus1, interruptStatus2, chassisClear, vidFanDivisor, deviceId, bankSelect, vendorId, chipId, realTimeStatus2}
+use Rattle.w83782d_map.specs.Map.{cells, presentAt, writableAt, powerOnAt, keptAt}
+use Rattle.w83782d_map.specs.Cells.{bankSelect, chassisClear, chipId, configuration, deviceId, interruptStatus1, interruptStatus2, realTimeStatus2, vendorId, vidFanDivisor}
 use Rattle.w83782d_map.specs.Access.{storedBits}
 use Rattle.w83782d_bus.specs.Registers.{bankOf, reachOf, isCommand, shownOf}
 use Rattle.w83782d_bus.specs.Effects.{latches, remoteOf, releases}

@@ -17,16 +17,17 @@ use Rattle.sensor.specs.Sensor.{statusOf, outputOf}
 use Rattle.sensor.specs.declared.Status.{Status}
 use Rattle.sensor.specs.declared.Output.{Output}
 use Rattle.w83782d_record.specs.declared.samples.Sample.{Sample}
-use Rattle.w83782d_map.specs.Map.{cells, at, bankAt, indexAt, configuration, interruptStatus1, interruptStatus2, realTimeStatus2, bankCell}
+use Rattle.w83782d_map.specs.Map.{cells, bankAt, indexAt}
+use Rattle.w83782d_map.specs.Cells.{bankCell, beepControl1, beepControl2, busAddress, configuration, diodeSelection, fanCount, fanLimit, gpoControl, highLimit, interruptStatus1, interruptStatus2, lowByte, lowLimit, ovtProperty, pinControl, pwmClock, realTimeStatus2, remoteAddress, sensor1Hysteresis, sensor1Over, sensor1Value, sensorConfiguration, sensorHysteresis, sensorOver, smiMask1, smiMask2, vbatFanDivisor, voltage}
 use Rattle.w83782d_bus.specs.Registers.{reachOf}
 use Rattle.w83782d_bus.specs.Effects.{remoteOf}
 use Rattle.w83782d_bus.specs.Bus.{State, Written, writeOf, readOf}
 use Rattle.w83782d_claims.specs.BusClaims.{Whole, cellIn, shownIn}
-use Rattle.w83782d_sample.specs.Stored.{voltage, fanCount, sensor1Value, sampledCode, sampledHalves, storedCount, isStopped}
-use Rattle.w83782d_sample.specs.Conditions.{highLimit, lowLimit, fanLimit, sensor1Over, sensor1Hysteresis, ovtProperty, statusMode, outputMode}
+use Rattle.w83782d_sample.specs.Stored.{sampledCode, sampledHalves, storedCount, isStopped}
+use Rattle.w83782d_sample.specs.Conditions.{statusMode, outputMode}
 use Rattle.w83782d_sample.specs.Sample.{Source, firstByte, secondByte, realTimeStatus1, markOf, sampleOf}
 use Rattle.w83782d_sample.specs.Sample.Source.{rail, sensor, fan, chassis}
-use Rattle.w83782d_readings.specs.Outputs.{smiMask1, smiMask2, smiOf}
+use Rattle.w83782d_readings.specs.Outputs.{smiOf}
 
 abbrev pub after : State → Sample → State
 after s x = sampleOf s x .state
@@ -73,13 +74,13 @@ abbrev pub sampledTemperature : Sample → ℕ → ℤ
 sampledTemperature x n = choose (eqb n 1) (x .sensor1) (sampledHalves x n)
 
 abbrev pub halvesIn : State → ℕ → ℤ
-halvesIn s c = signedOf half9 (nineBits (cellIn s c) (cellIn s (c + 1)))
+halvesIn s c = signedOf half9 (nineBits (cellIn s c) (cellIn s (lowByte c)))
 
 abbrev pub sensorLimit : State → ℕ → ℤ
-sensorLimit s n = choose (eqb n 1) (signedOf half8 (cellIn s sensor1Over)) (halvesIn s (bankCell n + 5))
+sensorLimit s n = choose (eqb n 1) (signedOf half8 (cellIn s sensor1Over)) (halvesIn s (sensorOver (bankCell n)))
 
 abbrev pub hysteresis : State → ℕ → ℤ
-hysteresis s n = choose (eqb n 1) (signedOf half8 (cellIn s sensor1Hysteresis)) (halvesIn s (bankCell n + 3))
+hysteresis s n = choose (eqb n 1) (signedOf half8 (cellIn s sensor1Hysteresis)) (halvesIn s (sensorHysteresis (bankCell n)))
 
 -- S-6: above its over limit, below its hysteresis
 unfoldable pub isHotter : State → Sample → ℕ → Bool
@@ -194,18 +195,18 @@ pub record Standby (s : State) : Type 0 where
 unfoldable pub ruleless : ℕ → ℕ
 ruleless c =
     choose (eqb c configuration) 0b0100_0000  -- 40h bit 6
-    (choose (eqb c (at 0x48)) 0b1111_1111  -- the bus address: no event goes by it
-    (choose (eqb c (at 0x4A)) 0b1111_1111
-    (choose (eqb c (at 0x4B)) 0b0011_1100  -- bits 5-2: 7-6 are fan 3's divisor
+    (choose (eqb c busAddress) 0b1111_1111  -- the bus address: no event goes by it
+    (choose (eqb c remoteAddress) 0b1111_1111
+    (choose (eqb c pinControl) 0b0011_1100  -- bits 5-2: 7-6 are fan 3's divisor
     (choose (eqb c ovtProperty) 0b0001_1100  -- 4Ch bits 4-2: bit 6 is a mode
-    (choose (eqb c (at 0x4D)) 0b1111_1111
-    (choose (eqb c (at 0x56)) 0b1111_1111
-    (choose (eqb c (at 0x57)) 0b1111_1111
-    (choose (eqb c (at 0x59)) 0b1111_1111
-    (choose (eqb c (at 0x5C)) 0b1111_1111
-    (choose (eqb c (at 0x5D)) 0b0000_1111  -- bits 3-0: 7-5 are divisor bits
-    (choose (eqb c (bankCell 2 + 2)) 0b0001_1001  -- 52h of bank 1 bits 4, 3, 0: bit 1 is a mode
-    (choose (eqb c (bankCell 3 + 2)) 0b0001_1001  -- and of bank 2
+    (choose (eqb c gpoControl) 0b1111_1111
+    (choose (eqb c beepControl1) 0b1111_1111
+    (choose (eqb c beepControl2) 0b1111_1111
+    (choose (eqb c diodeSelection) 0b1111_1111
+    (choose (eqb c pwmClock) 0b1111_1111
+    (choose (eqb c vbatFanDivisor) 0b0000_1111  -- bits 3-0: 7-5 are divisor bits
+    (choose (eqb c (sensorConfiguration (bankCell 2))) 0b0001_1001  -- 52h of bank 1 bits 4, 3, 0: bit 1 is a mode
+    (choose (eqb c (sensorConfiguration (bankCell 3))) 0b0001_1001  -- and of bank 2
     0))))))))))))
 
 -- two states that differ in those bits alone

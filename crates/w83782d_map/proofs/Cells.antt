@@ -14,7 +14,8 @@ use Rattle.bits.specs.Map.{Row, rowSays}
 use Rattle.bits.proofs.Every.{both, both-left, both-right, every-at, beq-same}
 use Rattle.bits.proofs.ChangeLaws.{and-left}
 use Rattle.bits.proofs.Match.{NoKey, or-either, last-arm}
-use Rattle.w83782d_map.specs.Map.{at, atBank, cells, rows, keptByReset, presentAt, writableAt, powerOnAt, keptAt, configuration, chassisClear}
+use Rattle.w83782d_map.specs.Map.{at, atBank, cells, rows, keptByReset, presentAt, writableAt, powerOnAt, keptAt}
+use Rattle.w83782d_map.specs.Cells.{chassisClear, configuration}
 use Rattle.w83782d_map.specs.Access.{writeAnswer, storedBits}
 use Rattle.w83782d_map.specs.Parts.{inSet}
 

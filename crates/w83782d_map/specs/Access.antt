@@ -3,14 +3,16 @@ use mathlib.Core.Bool.{_||_}
 use Prim.Native.Nat.{ℕ}
 use lib.Bits.{bitAnd}
 use lib.Dec.{eqb}
+use Rattle.answers.specs.Answers as answers
 use Rattle.bits.specs.Bits.{choose}
-use Rattle.w83782d_map.specs.Map.{presentAt, writableAt, configuration, chassisClear}
+use Rattle.w83782d_map.specs.Map.{presentAt, writableAt}
+use Rattle.w83782d_map.specs.Cells.{chassisClear, configuration}
 
 -- ---- answers: 1 before 2
 
 -- A-1: no register there; A-2: no bit of it can be written
 unfoldable pub writeAnswer : ℕ → ℕ
-writeAnswer c = choose (presentAt c) (choose (eqb (writableAt c) 0) 2 0) 1
+writeAnswer c = choose (presentAt c) (choose (eqb (writableAt c) 0) answers.readOnly 0) answers.absent
 
 -- ---- the bits that a write stores
 

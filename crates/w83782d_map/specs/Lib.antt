@@ -1,3 +1,4 @@
 pub mod Map
+pub mod Cells
 pub mod Access
 pub mod Parts

@@ -3,7 +3,7 @@
 use mathlib.Core.Bool.{Bool, true, false, _&&_}
 use mathlib.Core.List.{List, [], _∷_}
 use Prim.Native.Nat.{ℕ, _+_, _-_}
-use lib.Dec.{ltb, leb, eqb}
+use lib.Dec.{ltb, eqb}
 use lib.ListN.{length}
 use Rattle.bits.specs.Bits.{choose}
 use Rattle.bits.specs.Map.{Bank, any, bank, Span, span, Row, row, among, isPresent, writableBits, powerOnValue}
@@ -135,38 +135,3 @@ powerOnAt c = powerOnValue rows (bankAt c) (indexAt c)
 
 unfoldable pub keptAt : ℕ → Bool
 keptAt c = among keptByReset (bankAt c) (indexAt c)
-
--- ---- cells that a rule names
-abbrev pub configuration : ℕ
-configuration = at 0x40
-
-abbrev pub interruptStatus1 : ℕ
-interruptStatus1 = at 0x41
-
-abbrev pub interruptStatus2 : ℕ
-interruptStatus2 = at 0x42
-
-abbrev pub chassisClear : ℕ
-chassisClear = at 0x46
-
-abbrev pub vidFanDivisor : ℕ
-vidFanDivisor = at 0x47
-
-abbrev pub deviceId : ℕ
-deviceId = at 0x49
-
-abbrev pub bankSelect : ℕ
-bankSelect = at 0x4E
-
-abbrev pub vendorId : ℕ
-vendorId = at 0x4F
-
-abbrev pub chipId : ℕ
-chipId = at 0x58
-
-abbrev pub realTimeStatus2 : ℕ
-realTimeStatus2 = atBank 4 0x5A
-
--- 50h of the bank of sensor 2 or 3, 1 or 2; on from there: 52h its configuration, 53h its hysteresis, 55h its over limit
-abbrev pub bankCell : ℕ → ℕ
-bankCell n = choose (eqb n 2) (atBank 1 0x50) (atBank 2 0x50)

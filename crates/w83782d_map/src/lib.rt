@@ -5,22 +5,27 @@ ghost use Prim.Native.Nat.{_<_};
 ghost use Rattle.w83782d_map.specs.Map.{cells, presentAt, powerOnAt, keptAt};
 ghost use Rattle.w83782d_map.specs.Access.{writeAnswer, storedBits};
 ghost use Rattle.w83782d_map.specs.Parts.{inSet};
-
-// ---- Answer numbers
-
-const ACCEPTED: u8 = 0;
-
-const ABSENT: u8 = 1;
-
-const READ_ONLY: u8 = 2;
+use answers::ABSENT;
+use answers::ACCEPTED;
+use answers::READ_ONLY;
 
 // ---- Cells: bank 0 20h-5Fh, then banks 1, 2 and 4 from 50h up
 
 pub const CELLS: usize = 112;
 
-const VCOREA_HIGH: usize = 0x2b - 0x20;
+// The code of rail i is at VCOREA + i, its limits at VCOREA_HIGH + 2i and VCOREA_LOW + 2i; the count of fan f is at
+// FAN_COUNTS + f, its limit at FAN_LIMITS + f.
+pub const VCOREA: usize = 0x20 - 0x20;
 
-const VCOREA_LOW: usize = 0x2c - 0x20;
+pub const SENSOR_1: usize = 0x27 - 0x20;
+
+pub const FAN_COUNTS: usize = 0x27 - 0x20;
+
+pub const FAN_LIMITS: usize = 0x3a - 0x20;
+
+pub const VCOREA_HIGH: usize = 0x2b - 0x20;
+
+pub const VCOREA_LOW: usize = 0x2c - 0x20;
 
 const VINR0_HIGH: usize = 0x2d - 0x20;
 
@@ -106,29 +111,36 @@ pub const PWM_DUTY_3: usize = 0x5e - 0x20;
 
 pub const PWM_DUTY_4: usize = 0x5f - 0x20;
 
-pub const BANK_1: usize = 64;
+// 50h of the bank of sensor 2 or 3; on from there its 52h, 53h and 55h, high byte before low.
+pub const SENSOR_CONFIGURATION: usize = 2;
 
-const SENSOR_2_CONFIGURATION: usize = BANK_1 + 2;
+pub const SENSOR_HYSTERESIS: usize = 3;
 
-const SENSOR_2_HYSTERESIS: usize = BANK_1 + 3;
+pub const SENSOR_OVER: usize = 5;
 
-const SENSOR_2_HYSTERESIS_LOW: usize = BANK_1 + 4;
+pub const SENSOR_2: usize = 64;
 
-const SENSOR_2_OVER: usize = BANK_1 + 5;
+const SENSOR_2_CONFIGURATION: usize = SENSOR_2 + SENSOR_CONFIGURATION;
 
-const SENSOR_2_OVER_LOW: usize = BANK_1 + 6;
+const SENSOR_2_HYSTERESIS: usize = SENSOR_2 + SENSOR_HYSTERESIS;
 
-pub const BANK_2: usize = 80;
+const SENSOR_2_HYSTERESIS_LOW: usize = SENSOR_2 + SENSOR_HYSTERESIS + 1;
 
-const SENSOR_3_CONFIGURATION: usize = BANK_2 + 2;
+const SENSOR_2_OVER: usize = SENSOR_2 + SENSOR_OVER;
 
-const SENSOR_3_HYSTERESIS: usize = BANK_2 + 3;
+const SENSOR_2_OVER_LOW: usize = SENSOR_2 + SENSOR_OVER + 1;
 
-const SENSOR_3_HYSTERESIS_LOW: usize = BANK_2 + 4;
+pub const SENSOR_3: usize = 80;
 
-const SENSOR_3_OVER: usize = BANK_2 + 5;
+const SENSOR_3_CONFIGURATION: usize = SENSOR_3 + SENSOR_CONFIGURATION;
 
-const SENSOR_3_OVER_LOW: usize = BANK_2 + 6;
+const SENSOR_3_HYSTERESIS: usize = SENSOR_3 + SENSOR_HYSTERESIS;
+
+const SENSOR_3_HYSTERESIS_LOW: usize = SENSOR_3 + SENSOR_HYSTERESIS + 1;
+
+const SENSOR_3_OVER: usize = SENSOR_3 + SENSOR_OVER;
+
+const SENSOR_3_OVER_LOW: usize = SENSOR_3 + SENSOR_OVER + 1;
 
 const BANK_4: usize = 96;
 

@@ -15,7 +15,7 @@ use Rattle.w83782d_bus.specs.declared.latches.Latches.{Latches}
 use Rattle.w83782d_map.specs.Map.{cells}
 use Rattle.w83782d_bus.specs.Bus.{state, written, sized}
 use Rattle.w83782d_sample.specs.Stored.{divisorPlaces}
-use Rattle.w83782d_sample.specs.Conditions.{fanLimit}
+use Rattle.w83782d_map.specs.Cells.{fanLimit}
 use Rattle.w83782d_plan.specs.Plan.{setPlanOf}
 
 module _ (rs : List ℕ) (l : Latches) (f w : ℕ) where

@@ -2,21 +2,15 @@
 ghost use mathlib.Core.Path.{_≡_};
 ghost use Rattle.w83782d_bus.specs.Bus.{state, sized, wroteIn};
 ghost use Rattle.w83782d_plan.specs.Plan.{setPlanOf};
+use answers::NO_CHANNEL;
+use answers::WRONG_LENGTH;
 use fan::planner::plan;
 use in_force::plan_bits::put_plan;
 use w83782d_bus::Wrote;
 use w83782d_bus::latches::Latches;
 use w83782d_map::CELLS;
+use w83782d_map::FAN_LIMITS;
 use w83782d_sample::store::divisor_field;
-
-// ---- Answer numbers
-
-const NO_FAN: u8 = 7;
-
-const WRONG_LENGTH: u8 = 8;
-
-// The count limit of fan f stands at 3Ah + f.
-const LIMITS: usize = 0x3a - 0x20;
 
 // An alarm for a fan, 1 to 3, at a speed of 1 to 1,350,000 turns a minute. Refused as 7 or 6 it leaves registers and latches;
 // a slice that is not of 112 cells is refused as 8.
@@ -32,16 +26,16 @@ pub fn set_plan_in(s: &mut [u8], l: Latches, fan: u8, rpm: u32) -> Wrote
     if fan < 1 {
         return Wrote {
             latches: l,
-            answer: NO_FAN,
+            answer: NO_CHANNEL,
         };
     }
     if 3 < fan {
         return Wrote {
             latches: l,
-            answer: NO_FAN,
+            answer: NO_CHANNEL,
         };
     }
     let f = fan as usize;
-    let answer = put_plan(s, LIMITS + f, divisor_field(f), plan(rpm));
+    let answer = put_plan(s, FAN_LIMITS + f, divisor_field(f), plan(rpm));
     Wrote { latches: l, answer }
 }

@@ -5,6 +5,7 @@ use mathlib.Core.List.{List}
 use mathlib.Core.Logic.{_≢_}
 use Prim.Native.Nat.{ℕ}
 use lib.IntN.{pos}
+use Rattle.answers.specs.Answers as answers
 use Rattle.bits.specs.Bits.{choose, isBeyond}
 use Rattle.fan.specs.Speed.{speedAnswer, speedValue}
 use Rattle.analog.specs.Readings.{readingAnswer, readingValue, answerFor}
@@ -13,11 +14,11 @@ use Rattle.w83782d_readings.specs.Readings.{temperatureAnswer, temperatu
 
 -- 8 exactly for a slice that is not the registers' 112 cells, and of the registers this answer
 abbrev pub sizedAnswer : List ℕ → ℕ → ℕ
-sizedAnswer rs a = choose (fits rs) a 8
+sizedAnswer rs a = choose (fits rs) a answers.wrongLength
 
 -- 7 exactly for a number that is not 1 to the last
 abbrev pub answerTo : ℕ → ℕ → ℕ
-answerTo last n = choose (isBeyond last n) 7 0
+answerTo last n = choose (isBeyond last n) answers.noChannel 0
 
 -- the whole answer, 8 before 7; what is refused reads 0
 pub record ReadingClaims : Type 0 where

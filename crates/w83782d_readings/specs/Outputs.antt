@@ -6,17 +6,13 @@ use lib.Bits.{bitAnd, bitOr}
 use lib.Count.{ones}
 use lib.Dec.{eqb}
 use lib.ListN.{getD}
+use Rattle.answers.specs.Answers as answers
 use Rattle.bits.specs.Bits.{choose, isOn}
-use Rattle.w83782d_map.specs.Map.{at, fits, configuration, interruptStatus1, interruptStatus2}
+use Rattle.w83782d_map.specs.Map.{fits}
+use Rattle.w83782d_map.specs.Cells.{configuration, interruptStatus1, interruptStatus2, smiMask1, smiMask2}
 use Rattle.w83782d_bus.specs.Registers.{withChassis}
 use Rattle.w83782d_readings.specs.declared.outputs.Outputs.{Outputs}
 use Rattle.w83782d_readings.specs.declared.outputs.Outputs.the-variants.{Shown, WrongLength}
-
-abbrev pub smiMask1 : ℕ
-smiMask1 = at 0x43
-
-abbrev pub smiMask2 : ℕ
-smiMask2 = at 0x44
 
 -- 41h and 42h as a read shows them, the chassis bit being the latch
 abbrev pub status1 : List ℕ → ℕ
@@ -47,4 +43,4 @@ outputsOf rs chassis = choose (fits rs) (Shown (smiOf rs chassis) (standingAlarm
 -- the number of the answer table
 abbrev pub outputsAnswer : Outputs → ℕ
 outputsAnswer (Shown smi alarms) = 0
-outputsAnswer WrongLength = 8
+outputsAnswer WrongLength = answers.wrongLength

@@ -4,6 +4,7 @@ use Prim.Native.Nat.{ℕ, _+_}
 use lib.Dec.{eqb}
 use lib.IntN.{ℤ, pos}
 use lib.ListN.{getD}
+use Rattle.answers.specs.Answers as answers
 use Rattle.bits.specs.Bits.{choose, isBeyond}
 use Rattle.fan.specs.Count.{valueOf}
 use Rattle.fan.specs.Speed as fan
@@ -14,8 +15,9 @@ use Rattle.analog.specs.Temperature.{half9, signedOf, nineBits}
 use Rattle.analog.specs.Pwm.{pwmParts}
 use Rattle.analog.specs.declared.voltages.Reading.{Reading}
 use Rattle.analog.specs.declared.voltages.Reading.the-variants as reading
-use Rattle.w83782d_map.specs.Map.{at, fits, bankCell}
-use Rattle.w83782d_sample.specs.Stored.{voltage, sensor1Value, fanCount, divisorOf}
+use Rattle.w83782d_map.specs.Map.{fits}
+use Rattle.w83782d_sample.specs.Stored.{divisorOf}
+use Rattle.w83782d_map.specs.Cells.{bankCell, fanCount, lowByte, pwmDuty1, pwmDuty2, pwmDuty3, pwmDuty4, sensor1Value, voltage}
 use Rattle.w83782d_readings.specs.declared.Temperature.{Temperature}
 use Rattle.w83782d_readings.specs.declared.Temperature.the-variants as temperature
 use Rattle.w83782d_readings.specs.declared.Duty.{Duty}
@@ -24,8 +26,8 @@ use Rattle.w83782d_readings.specs.declared.Duty.the-variants as duty
 -- the number of the answer table; a sensor other than 1 to 3 is refused as 7, as a fan is. decision D-48
 abbrev pub temperatureAnswer : Temperature → ℕ
 temperatureAnswer (temperature.HalfDegrees z) = 0
-temperatureAnswer temperature.Refused = 7
-temperatureAnswer temperature.WrongLength = 8
+temperatureAnswer temperature.Refused = answers.noChannel
+temperatureAnswer temperature.WrongLength = answers.wrongLength
 
 -- the half degrees that are read; refused: 0
 abbrev pub temperatureValue : Temperature → ℤ
@@ -36,8 +38,8 @@ temperatureValue temperature.WrongLength = pos 0
 -- the number of the answer table; a PWM output other than 1 to 4 is refused as 7. decision D-24
 abbrev pub dutyAnswer : Duty → ℕ
 dutyAnswer (duty.Parts n) = 0
-dutyAnswer duty.Refused = 7
-dutyAnswer duty.WrongLength = 8
+dutyAnswer duty.Refused = answers.noChannel
+dutyAnswer duty.WrongLength = answers.wrongLength
 
 -- the parts that are read; refused: 0
 abbrev pub dutyValue : Duty → ℕ
@@ -65,17 +67,17 @@ halfDegrees high low = signedOf half9 (nineBits high low)
 unfoldable pub temperatureAt : List ℕ → ℕ → Temperature
 temperatureAt rs n =
     choose (eqb n 1) (temperature.HalfDegrees (halfDegrees (getD rs sensor1Value 0) 0))
-    (choose (eqb n 2) (temperature.HalfDegrees (halfDegrees (getD rs (bankCell 2) 0) (getD rs (bankCell 2 + 1) 0)))
-    (choose (eqb n 3) (temperature.HalfDegrees (halfDegrees (getD rs (bankCell 3) 0) (getD rs (bankCell 3 + 1) 0)))
+    (choose (eqb n 2) (temperature.HalfDegrees (halfDegrees (getD rs (bankCell 2) 0) (getD rs (lowByte (bankCell 2)) 0)))
+    (choose (eqb n 3) (temperature.HalfDegrees (halfDegrees (getD rs (bankCell 3) 0) (getD rs (lowByte (bankCell 3)) 0)))
     temperature.Refused))
 
 -- R-3: outputs 1 to 4 are 5Bh, 5Ah, 5Eh, 5Fh
 unfoldable pub dutyAt : List ℕ → ℕ → Duty
 dutyAt rs n =
-    choose (eqb n 1) (duty.Parts (pwmParts (getD rs (at 0x5B) 0)))
-    (choose (eqb n 2) (duty.Parts (pwmParts (getD rs (at 0x5A) 0)))
-    (choose (eqb n 3) (duty.Parts (pwmParts (getD rs (at 0x5E) 0)))
-    (choose (eqb n 4) (duty.Parts (pwmParts (getD rs (at 0x5F) 0)))
+    choose (eqb n 1) (duty.Parts (pwmParts (getD rs pwmDuty1 0)))
+    (choose (eqb n 2) (duty.Parts (pwmParts (getD rs pwmDuty2 0)))
+    (choose (eqb n 3) (duty.Parts (pwmParts (getD rs pwmDuty3 0)))
+    (choose (eqb n 4) (duty.Parts (pwmParts (getD rs pwmDuty4 0)))
     duty.Refused)))
 
 -- ---- and of any slice: one that is not the registers' 112 cells is refused as 8, before 7. decision D-01

@@ -14,25 +14,17 @@ use bits::cell;
 use fan::Divided;
 use fan::Divisor;
 use fan::Speed;
-use w83782d_map::BANK_1;
-use w83782d_map::BANK_2;
 use w83782d_map::CELLS;
+use w83782d_map::FAN_COUNTS;
 use w83782d_map::PWM_DUTY_1;
 use w83782d_map::PWM_DUTY_2;
 use w83782d_map::PWM_DUTY_3;
 use w83782d_map::PWM_DUTY_4;
+use w83782d_map::SENSOR_1;
+use w83782d_map::SENSOR_2;
+use w83782d_map::SENSOR_3;
+use w83782d_map::VCOREA;
 use w83782d_sample::store::divisor_field;
-
-const VCOREA: usize = 0x20 - 0x20;
-
-const SENSOR_1: usize = 0x27 - 0x20;
-
-// The cell before fan 1's count.
-const COUNTS: usize = 0x27 - 0x20;
-
-const SENSOR_2: usize = BANK_1;
-
-const SENSOR_3: usize = BANK_2;
 
 // What reading a temperature answers.
 pub enum Temperature {
@@ -81,7 +73,7 @@ pub fn speed(s: &[u8], fan: u8) -> Speed
     }
     let f = fan as usize;
     let divisor = Divisor::gathered(s, divisor_field(f));
-    Divided(cell(s, COUNTS + f)).speed(divisor)
+    Divided(cell(s, FAN_COUNTS + f)).speed(divisor)
 }
 
 // The temperature of a sensor, 1 to 3, in half degrees.

@@ -20,7 +20,8 @@ use Rattle.sensor.specs.declared.Remote.{Remote}
 use Rattle.w83782d_record.specs.declared.samples.Sample.{Sample}
 use Rattle.w83782d_bus.specs.declared.latches.Latches.{Latches}
 use Rattle.w83782d_bus.specs.Effects.{remoteOf}
-use Rattle.w83782d_map.specs.Map.{cells, interruptStatus1, interruptStatus2, realTimeStatus2}
+use Rattle.w83782d_map.specs.Map.{cells}
+use Rattle.w83782d_map.specs.Cells.{interruptStatus1, interruptStatus2, realTimeStatus2}
 use Rattle.w83782d_bus.specs.Bus.{state, written, sized}
 use Rattle.w83782d_sample.specs.Stored.{storedReadings, sampleAnswer}
 use Rattle.w83782d_sample.specs.StoredParts.{storedIn}

@@ -10,31 +10,10 @@ use Rattle.fan.specs.Count.{overLimit}
 use Rattle.analog.specs.Temperature.{half8, half9, levelOf, nineBits}
 use Rattle.sensor.specs.declared.Mode.{Mode}
 use Rattle.sensor.specs.declared.Mode.the-variants.{Comparator, Interrupt}
-use Rattle.w83782d_map.specs.Map.{at, bankCell}
+use Rattle.w83782d_map.specs.Cells.{bankCell, fanCount, fanLimit, highLimit, lowByte, lowLimit, ovtProperty, sensor1Hysteresis, sensor1Over, sensor1Value, sensorHysteresis, sensorOver, voltage}
 use Rattle.w83782d_bus.specs.Registers.{isInterrupt}
-use Rattle.w83782d_sample.specs.Stored.{voltage, fanCount, sensor1Value}
 use Rattle.w83782d_sample.specs.declared.conditions.Comparison.{Comparison}
 use Rattle.w83782d_sample.specs.declared.conditions.Compared.{Compared}
-
--- ---- the limits of a rail, a sensor and a fan, and cells that name modes
--- high and low limit of each voltage, from 2Bh
-abbrev pub highLimit : ℕ → ℕ
-highLimit i = at 0x2B + 2 * i
-
-abbrev pub lowLimit : ℕ → ℕ
-lowLimit i = at 0x2C + 2 * i
-
-abbrev pub fanLimit : ℕ → ℕ
-fanLimit f = at 0x3A + f
-
-abbrev pub sensor1Over : ℕ
-sensor1Over = at 0x39
-
-abbrev pub sensor1Hysteresis : ℕ
-sensor1Hysteresis = at 0x3A
-
-abbrev pub ovtProperty : ℕ
-ovtProperty = at 0x4C
 
 -- ---- conditions, of the registers with the readings stored
 
@@ -47,14 +26,14 @@ abbrev pub wholeLevelAt : List ℕ → ℕ → ℕ
 wholeLevelAt rs c = levelOf half8 (getD rs c 0)
 
 abbrev pub halfLevelAt : List ℕ → ℕ → ℕ
-halfLevelAt rs c = levelOf half9 (nineBits (getD rs c 0) (getD rs (c + 1) 0))
+halfLevelAt rs c = levelOf half9 (nineBits (getD rs c 0) (getD rs (lowByte c) 0))
 
 -- sensors 2 and 3, by the first cell of their bank
 abbrev pub aboveAt : List ℕ → ℕ → Bool
-aboveAt rs c = ltb (halfLevelAt rs (c + 5)) (halfLevelAt rs c)
+aboveAt rs c = ltb (halfLevelAt rs (sensorOver c)) (halfLevelAt rs c)
 
 abbrev pub belowAt : List ℕ → ℕ → Bool
-belowAt rs c = ltb (halfLevelAt rs c) (halfLevelAt rs (c + 3))
+belowAt rs c = ltb (halfLevelAt rs c) (halfLevelAt rs (sensorHysteresis c))
 
 -- S-6: above its over limit
 unfoldable pub isAbove : List ℕ → ℕ → Bool

@@ -5,6 +5,7 @@ use Prim.Native.Nat.{ℕ, _+_, _-_}
 use lib.Dec.{eqb}
 use lib.IntN.{ℤ, pos}
 use lib.ListN.{getD, set}
+use Rattle.answers.specs.Answers as answers
 use Rattle.bits.specs.Bits.{choose, isOn}
 use Rattle.bits.specs.declared.Bit.{Bit}
 use Rattle.bits.specs.declared.Bit.the-variants.{B4, B5, B6, B7}
@@ -15,17 +16,7 @@ use Rattle.fan.specs.declared.Divisor.{Divisor}
 use Rattle.fan.specs.declared.Undivided.{Undivided}
 use Rattle.analog.specs.Temperature.{half8, codeOf, outside, halfCodeOf, halfHigh, halfLow}
 use Rattle.w83782d_record.specs.declared.samples.Sample.{Sample}
-use Rattle.w83782d_map.specs.Map.{at, configuration, bankCell}
-
--- ---- the cells of a rail, a sensor and a fan
-abbrev pub voltage : ℕ → ℕ
-voltage i = at 0x20 + i
-
-abbrev pub fanCount : ℕ → ℕ
-fanCount f = at 0x27 + f
-
-abbrev pub sensor1Value : ℕ
-sensor1Value = at 0x27
+use Rattle.w83782d_map.specs.Cells.{bankCell, configuration, fanCount, lowByte, pinControl, sensor1Value, vbatFanDivisor, vidFanDivisor, voltage}
 
 -- ---- S-2: a fan's divisor: fan 1 in 47h 5-4, fan 2 in 47h 7-6, fan 3 in 4Bh 7-6, the top bits in 5Dh 5, 6, 7
 abbrev pub place : ℕ → Bit → Place
@@ -33,9 +24,9 @@ place c b = record { cell = c; bit = b }
 
 abbrev pub divisorPlaces : ℕ → List Place
 divisorPlaces f =
-    choose (eqb f 1) (place (at 0x47) B4 ∷ place (at 0x47) B5 ∷ place (at 0x5D) B5 ∷ [])
-    (choose (eqb f 2) (place (at 0x47) B6 ∷ place (at 0x47) B7 ∷ place (at 0x5D) B6 ∷ [])
-    (place (at 0x4B) B6 ∷ place (at 0x4B) B7 ∷ place (at 0x5D) B7 ∷ []))
+    choose (eqb f 1) (place vidFanDivisor B4 ∷ place vidFanDivisor B5 ∷ place vbatFanDivisor B5 ∷ [])
+    (choose (eqb f 2) (place vidFanDivisor B6 ∷ place vidFanDivisor B7 ∷ place vbatFanDivisor B6 ∷ [])
+    (place pinControl B6 ∷ place pinControl B7 ∷ place vbatFanDivisor B7 ∷ []))
 
 abbrev pub divisorOf : List ℕ → ℕ → Divisor
 divisorOf rs f = divisorAt rs (divisorPlaces f)
@@ -75,7 +66,7 @@ fans = 1 ∷ 2 ∷ 3 ∷ []
 
 -- S-4: nine bits, in two bytes
 abbrev pub halves : Sample → ℕ → List Store
-halves x n = (bankCell n ≔ halfHigh (halfCodeOf (sampledHalves x n))) ∷ ((bankCell n + 1) ≔ halfLow (halfCodeOf (sampledHalves x n))) ∷ []
+halves x n = (bankCell n ≔ halfHigh (halfCodeOf (sampledHalves x n))) ∷ (lowByte (bankCell n) ≔ halfLow (halfCodeOf (sampledHalves x n))) ∷ []
 
 -- the counts go by the divisors now set; all cells are distinct
 abbrev pub readings : List ℕ → Sample → List Store
@@ -97,6 +88,6 @@ isStopped c = not (isOn c 0) || isOn c 3
 -- A-3, then A-4
 unfoldable pub sampleAnswer : List ℕ → Sample → ℕ
 sampleAnswer rs x =
-    choose (outside (sampledHalves x 2)) 3
-    (choose (outside (sampledHalves x 3)) 3
-    (choose (isStopped (getD rs configuration 0)) 4 0))
+    choose (outside (sampledHalves x 2)) answers.badTemperature
+    (choose (outside (sampledHalves x 3)) answers.badTemperature
+    (choose (isStopped (getD rs configuration 0)) answers.stopped 0))

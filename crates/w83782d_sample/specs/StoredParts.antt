@@ -7,12 +7,13 @@ use Rattle.bits.specs.declared.Bit.{Bit}
 use Rattle.bits.specs.declared.fields.Field.{Field}
 use Rattle.analog.specs.Temperature.{half8, codeOf, halfCodeOf, halfHigh, halfLow}
 use Rattle.w83782d_record.specs.declared.samples.Sample.{Sample}
-use Rattle.w83782d_map.specs.Map.{at, fits}
-use Rattle.w83782d_sample.specs.Stored.{place, sensor1Value, voltage, sampledCode, fanCount, storedCount, rails, fans, puts, _≔_, storedReadings}
+use Rattle.w83782d_map.specs.Map.{fits}
+use Rattle.w83782d_sample.specs.Stored.{place, sampledCode, storedCount, rails, fans, puts, _≔_, storedReadings}
+use Rattle.w83782d_map.specs.Cells.{fanCount, lowByte, sensor1Value, vbatFanDivisor, voltage}
 
 -- a divisor's field: two bits in one cell, the top one in 5Dh
 abbrev pub fieldOf : ℕ → Bit → Bit → Bit → Field
-fieldOf c low middle high = record { low = place c low; middle = place c middle; high = place (at 0x5D) high }
+fieldOf c low middle high = record { low = place c low; middle = place c middle; high = place vbatFanDivisor high }
 
 -- three counts; seven codes and sensor 1; nine bits from a cell
 unfoldable pub withCounts : List ℕ → Sample → List ℕ
@@ -22,7 +23,7 @@ unfoldable pub withCodes : List ℕ → Sample → List ℕ
 withCodes rs x = puts rs (map (λ i. voltage i ≔ sampledCode x i) rails ++ (sensor1Value ≔ codeOf half8 (x .sensor1)) ∷ [])
 
 unfoldable pub withHalves : List ℕ → ℕ → ℤ → List ℕ
-withHalves rs c t = puts rs ((c ≔ halfHigh (halfCodeOf t)) ∷ ((c + 1) ≔ halfLow (halfCodeOf t)) ∷ [])
+withHalves rs c t = puts rs ((c ≔ halfHigh (halfCodeOf t)) ∷ (lowByte c ≔ halfLow (halfCodeOf t)) ∷ [])
 
 -- all of them; a slice of another length stays
 abbrev pub storedIn : List ℕ → Sample → List ℕ

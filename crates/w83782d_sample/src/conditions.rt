@@ -19,30 +19,17 @@ use sensor::Mode;
 use w83782d_bus::registers::bank_cell;
 use w83782d_bus::registers::is_interrupt;
 use w83782d_map::CELLS;
+use w83782d_map::FAN_COUNTS;
+use w83782d_map::FAN_LIMITS;
 use w83782d_map::IRQ_OVT;
+use w83782d_map::SENSOR_1;
 use w83782d_map::SENSOR_1_HYSTERESIS;
 use w83782d_map::SENSOR_1_OVER;
-
-// ---- Cells
-
-const SENSOR_1: usize = 0x27 - 0x20;
-
-// Within the banks of sensors 2 and 3.
-const HYSTERESIS: usize = 3;
-
-const OVER: usize = 5;
-
-// The code of rail i stands at 20h + i, its high and low limits at 2Bh + 2i and 2Ch + 2i; the count and limit of fan f at
-// 27h + f and 3Ah + f.
-const VOLTAGES: usize = 0x20 - 0x20;
-
-const HIGH_LIMITS: usize = 0x2b - 0x20;
-
-const LOW_LIMITS: usize = 0x2c - 0x20;
-
-const COUNTS: usize = 0x27 - 0x20;
-
-const LIMITS: usize = 0x3a - 0x20;
+use w83782d_map::SENSOR_HYSTERESIS;
+use w83782d_map::SENSOR_OVER;
+use w83782d_map::VCOREA;
+use w83782d_map::VCOREA_HIGH;
+use w83782d_map::VCOREA_LOW;
 
 // ---- Conditions
 
@@ -51,15 +38,15 @@ fn outside(s: &[u8], i: usize) -> bool
     requires { ⌜ (length (now s) ≡ cells) × (i < 7) ⌝ }
     ensures { λ r. ⌜ r ≡ isOutside (now (s .entry)) i ⌝ }
 {
-    let v = s[VOLTAGES + i];
-    (s[HIGH_LIMITS + 2 * i] < v) | (v < s[LOW_LIMITS + 2 * i])
+    let v = s[VCOREA + i];
+    (s[VCOREA_HIGH + 2 * i] < v) | (v < s[VCOREA_LOW + 2 * i])
 }
 
 fn slow(s: &[u8], f: usize) -> bool
     requires { ⌜ (length (now s) ≡ cells) × (f < 4) ⌝ }
     ensures { λ r. ⌜ r ≡ isSlow (now (s .entry)) f ⌝ }
 {
-    rings(Divided(s[COUNTS + f]), s[LIMITS + f])
+    rings(Divided(s[FAN_COUNTS + f]), s[FAN_LIMITS + f])
 }
 
 // Nine bits from a cell, as a level.
@@ -154,8 +141,8 @@ fn compare_remote(s: &[u8], sensor: usize) -> Comparison
 {
     let bank = bank_cell(sensor);
     let t = half_level_at(s, bank);
-    let over = half_level_at(s, bank + OVER);
-    let hysteresis = half_level_at(s, bank + HYSTERESIS);
+    let over = half_level_at(s, bank + SENSOR_OVER);
+    let hysteresis = half_level_at(s, bank + SENSOR_HYSTERESIS);
     let mode = mode_if(is_on(s[IRQ_OVT], Bit::B6));
     Comparison {
         mode,

@@ -17,6 +17,8 @@ use crate::conditions::Comparison;
 use crate::conditions::compare;
 use crate::store::answer_to;
 use crate::store::store;
+use answers::ACCEPTED;
+use answers::WRONG_LENGTH;
 use bits::pack;
 use sensor::Mode;
 use sensor::Remote;
@@ -30,12 +32,6 @@ use w83782d_map::INTERRUPT_STATUS_2;
 use w83782d_map::REAL_TIME_STATUS_1;
 use w83782d_map::REAL_TIME_STATUS_2;
 use w83782d_record::samples::Sample;
-
-// ---- Answer numbers
-
-const ACCEPTED: u8 = 0;
-
-const WRONG_LENGTH: u8 = 8;
 
 // ---- Steps
 

@@ -12,6 +12,9 @@ use analog::HalfCode;
 use analog::half_code;
 use analog::is_outside;
 use analog::whole_code;
+use answers::ACCEPTED;
+use answers::BAD_TEMPERATURE;
+use answers::STOPPED;
 use bits::Bit;
 use bits::cell;
 use bits::fields::Field;
@@ -20,29 +23,16 @@ use bits::is_on;
 use fan::Divisor;
 use fan::Undivided;
 use fan::divide;
-use w83782d_map::BANK_1;
-use w83782d_map::BANK_2;
 use w83782d_map::CELLS;
 use w83782d_map::CONFIGURATION;
+use w83782d_map::FAN_COUNTS;
 use w83782d_map::PIN_CONTROL;
+use w83782d_map::SENSOR_1;
+use w83782d_map::SENSOR_2;
+use w83782d_map::SENSOR_3;
 use w83782d_map::VBAT_FAN_DIVISOR;
 use w83782d_map::VID_FAN_DIVISOR;
 use w83782d_record::samples::Sample;
-
-// ---- Answer numbers
-
-const ACCEPTED: u8 = 0;
-
-const BAD_TEMPERATURE: u8 = 3;
-
-const STOPPED: u8 = 4;
-
-// ---- Cells
-
-const SENSOR_1: usize = 0x27 - 0x20;
-
-// The count of fan f stands at 27h + f.
-const COUNTS: usize = 0x27 - 0x20;
 
 // ---- Readings
 
@@ -93,9 +83,9 @@ fn store_counts(s: &mut [u8], x: Sample)
     let one = count(s, 1, a);
     let two = count(s, 2, b);
     let three = count(s, 3, c);
-    s[COUNTS + 1] = one;
-    s[COUNTS + 2] = two;
-    s[COUNTS + 3] = three;
+    s[FAN_COUNTS + 1] = one;
+    s[FAN_COUNTS + 2] = two;
+    s[FAN_COUNTS + 3] = three;
 }
 
 fn store_codes(s: &mut [u8], x: Sample)
@@ -139,8 +129,8 @@ pub fn store(s: &mut [u8], x: Sample)
     }
     store_counts(s, x);
     store_codes(s, x);
-    store_halves(s, BANK_1, x.remote[0]);
-    store_halves(s, BANK_2, x.remote[1]);
+    store_halves(s, SENSOR_2, x.remote[0]);
+    store_halves(s, SENSOR_3, x.remote[1]);
 }
 
 // ---- The answer

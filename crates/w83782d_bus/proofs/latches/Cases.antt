@@ -7,7 +7,7 @@ use mathlib.Core.List.{List}
 use borrow.Author.Tests.{ne-eqb}
 use lib.Dec.{eqb}
 use Rattle.bits.specs.Bits.{choose, isOn}
-use Rattle.w83782d_map.specs.Map.{configuration, chassisClear, bankCell}
+use Rattle.w83782d_map.specs.Cells.{bankCell, chassisClear, configuration}
 use Rattle.w83782d_bus.specs.Registers.{isInterrupt}
 use Rattle.w83782d_bus.proofs.registers.Cases.{both}
 use Rattle.w83782d_bus.specs.declared.latches.Latches.{Latches}

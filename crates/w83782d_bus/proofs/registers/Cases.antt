@@ -14,7 +14,8 @@ use Rattle.bits.specs.Bits.{isOn}
 use types.Run.{OneOf}
 use Rattle.bits.proofs.Match.{NoKey}
 use Rattle.bits.proofs.Tables.{tabulate-length, tabulate-at, over, over-next, over-at}
-use Rattle.w83782d_map.specs.Map.{cells, powerOnAt, keptAt, configuration, interruptStatus2, chassisClear, vidFanDivisor, deviceId, bankSelect, vendorId, chipId, realTimeStatus2, bankCell}
+use Rattle.w83782d_map.specs.Map.{cells, powerOnAt, keptAt}
+use Rattle.w83782d_map.specs.Cells.{bankCell, bankSelect, chassisClear, chipId, configuration, deviceId, interruptStatus2, realTimeStatus2, vendorId, vidFanDivisor}
 use Rattle.w83782d_bus.specs.Registers.{cellOf, reachOf, isInterrupt, withChassis, vendorByte, shownOf}
 use Rattle.w83782d_bus.specs.Parts.{restoredByte, restoredRegisters, restoredIn}
 

@@ -21,7 +21,8 @@ use Rattle.bits.proofs.Tables.{tabulate-length, tabulate-at}
 use Rattle.sensor.specs.Sensor.{armed, releasedOf}
 use Rattle.sensor.specs.declared.Remote.{Remote}
 use Rattle.w83782d_bus.specs.declared.latches.Latches.{Latches}
-use Rattle.w83782d_map.specs.Map.{cells, presentAt, writableAt, powerOnAt, keptAt, rows, configuration, interruptStatus1, interruptStatus2, chassisClear, vidFanDivisor, deviceId, bankSelect, vendorId, chipId, realTimeStatus2, bankCell}
+use Rattle.w83782d_map.specs.Map.{cells, presentAt, writableAt, powerOnAt, keptAt, rows}
+use Rattle.w83782d_map.specs.Cells.{bankCell, bankSelect, chassisClear, chipId, configuration, deviceId, interruptStatus1, interruptStatus2, realTimeStatus2, vendorId, vidFanDivisor}
 use Rattle.w83782d_map.specs.Access.{writeAnswer, storedBits}
 use Rattle.w83782d_bus.specs.Registers.{cellOf, reachOf, isCommand, isInterrupt, resetRegisters, withChassis, shownOf}
 use Rattle.w83782d_bus.specs.Effects.{remoteOf, writtenLatches, readLatches, withReleased, releases, openedLatches}

@@ -17,7 +17,8 @@ use Rattle.bits.specs.Bits.{bit, choose, mergeOf, changes}
 use Rattle.bits.specs.Map.{among}
 use Rattle.bits.proofs.BitLaws.{choose-ind}
 use Rattle.bits.proofs.Every.{every-at, every-at2, beq-same}
-use Rattle.w83782d_map.specs.Map.{cells, presentAt, writableAt, rows, bankSelect}
+use Rattle.w83782d_map.specs.Map.{cells, presentAt, writableAt, rows}
+use Rattle.w83782d_map.specs.Cells.{bankSelect}
 use Rattle.w83782d_map.specs.Access.{writeAnswer, storedBits}
 use Rattle.w83782d_bus.specs.Registers.{cellOf, bankOf, reachOf}
 use Rattle.w83782d_bus.specs.Bus.{State, writtenRegisters, writeOf, Written, readOf, Read}

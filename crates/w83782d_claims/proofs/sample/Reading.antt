@@ -14,7 +14,8 @@ use lib.ListN.{set}
 use Rattle.bits.specs.Bits.{bit, isOn, choose}
 use Rattle.bits.proofs.Every.{same-tests}
 use Rattle.w83782d_bus.specs.declared.latches.Latches.{Latches}
-use Rattle.w83782d_map.specs.Map.{cells, presentAt, configuration, interruptStatus1, interruptStatus2, bankSelect}
+use Rattle.w83782d_map.specs.Map.{cells, presentAt}
+use Rattle.w83782d_map.specs.Cells.{bankSelect, configuration, interruptStatus1, interruptStatus2}
 use Rattle.w83782d_map.proofs.Cells.{present-cell}
 use Rattle.w83782d_bus.specs.Registers.{cellOf, reachOf, shownOf}
 use Rattle.w83782d_bus.specs.Effects.{readLatches}

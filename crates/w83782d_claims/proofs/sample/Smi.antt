@@ -15,12 +15,13 @@ use lib.Seq.{getD-set-same, getD-set-other}
 use Rattle.bits.specs.Bits.{bit, isOn, choose, mergeOf, changes}
 use Rattle.bits.proofs.BitLaws.{bit-lt, bit-none, bit-on, bit-off, and-bit, or-bit}
 use Rattle.bits.proofs.Every.{every-at, same-below2, same-tests, both, both-left, both-right}
-use Rattle.w83782d_map.specs.Map.{presentAt, writableAt, rows, configuration, interruptStatus1, interruptStatus2}
+use Rattle.w83782d_map.specs.Map.{presentAt, writableAt, rows}
+use Rattle.w83782d_map.specs.Cells.{configuration, interruptStatus1, interruptStatus2, smiMask1, smiMask2}
 use Rattle.w83782d_map.specs.Access.{writeAnswer, storedBits}
 use Rattle.w83782d_bus.specs.Registers.{cellOf, shownOf}
 use Rattle.w83782d_bus.specs.Effects.{writtenLatches}
 use Rattle.w83782d_bus.specs.Bus.{State, state, Written, written, writtenRegisters, writeOf}
-use Rattle.w83782d_readings.specs.Outputs.{smiMask1, smiMask2, status1, status2, unmasked, smiOf}
+use Rattle.w83782d_readings.specs.Outputs.{status1, status2, unmasked, smiOf}
 use Rattle.w83782d_claims.specs.BusClaims.{Whole, cellIn}
 use Rattle.w83782d_claims.specs.SampleClaims.{isStandby, smiIn, UnmaskedBit, SmiExactly, standbyOf, Standby}
 use Rattle.w83782d_claims.specs.SampleClaims.UnmaskedBit.{in41h, in42h}

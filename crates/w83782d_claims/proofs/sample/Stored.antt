@@ -23,16 +23,17 @@ use Rattle.fan.specs.declared.Divisor.{Divisor}
 use Rattle.sensor.specs.declared.Status.{Status}
 use Rattle.w83782d_record.specs.declared.samples.Sample.{Sample}
 use Rattle.w83782d_bus.specs.declared.latches.Latches.{Latches}
-use Rattle.w83782d_map.specs.Map.{cells, bankAt, indexAt, configuration, interruptStatus1, interruptStatus2, bankCell}
+use Rattle.w83782d_map.specs.Map.{cells, bankAt, indexAt}
+use Rattle.w83782d_map.specs.Cells.{bankCell, configuration, fanCount, fanLimit, highLimit, interruptStatus1, interruptStatus2, lowLimit, ovtProperty, sensor1Hysteresis, sensor1Over, sensor1Value, smiMask1, smiMask2, voltage}
 use Rattle.w83782d_bus.specs.Registers.{isInterrupt}
 use Rattle.w83782d_bus.proofs.registers.Cases.{both}
 use Rattle.w83782d_bus.specs.Bus.{State}
-use Rattle.w83782d_sample.specs.Stored.{Store, puts, none, voltage, fanCount, sensor1Value, divisorPlaces, divisorOf, storedCount, readings, storedReadings, sampleAnswer}
-use Rattle.w83782d_sample.specs.Conditions.{highLimit, lowLimit, fanLimit, sensor1Over, sensor1Hysteresis, ovtProperty, isOutside, isAbove, isBelow, isSlow, statusMode, outputMode}
+use Rattle.w83782d_sample.specs.Stored.{Store, puts, none, divisorPlaces, divisorOf, storedCount, readings, storedReadings, sampleAnswer}
+use Rattle.w83782d_sample.specs.Conditions.{isOutside, isAbove, isBelow, isSlow, statusMode, outputMode}
 use Rattle.w83782d_sample.proofs.conditions.Rules.{not-one}
 use Rattle.w83782d_sample.specs.Sample.{statusAt, outputAt, remoteAfter, latchedBy, statusStores, statusRegisters, steppedLatches, sampleOf}
 use Rattle.w83782d_sample.specs.Sample.Source.{sensor}
-use Rattle.w83782d_readings.specs.Outputs.{smiMask1, smiMask2, smiOf}
+use Rattle.w83782d_readings.specs.Outputs.{smiOf}
 use Rattle.w83782d_claims.specs.BusClaims.{Whole, cellIn}
 use Rattle.w83782d_claims.specs.SampleClaims.{after, touched, ruleless, Alike, ReadAlike, StoredOnly}
 use Rattle.w83782d_claims.proofs.sample.Stores.{sample-answer, accepted-state, refused-state, frame}

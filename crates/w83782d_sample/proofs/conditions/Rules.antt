@@ -11,11 +11,11 @@ use lib.ListN.{length, getD}
 use Rattle.bits.specs.Bits.{isOn, word}
 use Rattle.fan.specs.Count.{overLimit}
 use Rattle.sensor.specs.declared.Mode.{Mode}
-use Rattle.w83782d_map.specs.Map.{cells, bankCell}
+use Rattle.w83782d_map.specs.Map.{cells}
+use Rattle.w83782d_map.specs.Cells.{bankCell, fanCount, fanLimit, ovtProperty, sensor1Hysteresis, sensor1Over, sensor1Value}
 use Rattle.w83782d_bus.specs.Registers.{isInterrupt}
-use Rattle.w83782d_sample.specs.Stored.{fanCount, sensor1Value}
 use Rattle.w83782d_sample.specs.declared.conditions.Comparison.{Comparison}
-use Rattle.w83782d_sample.specs.Conditions.{fanLimit, sensor1Over, sensor1Hysteresis, ovtProperty, isOutside, wholeLevelAt, halfLevelAt, isAbove, isBelow, isSlow, modeIf, statusMode, outputMode, comparisonOf, comparedOf}
+use Rattle.w83782d_sample.specs.Conditions.{isOutside, wholeLevelAt, halfLevelAt, isAbove, isBelow, isSlow, modeIf, statusMode, outputMode, comparisonOf, comparedOf}
 use Rattle.w83782d_sample.specs.ConditionParts.{nothing, comparedIn}
 
 -- ---- conditions

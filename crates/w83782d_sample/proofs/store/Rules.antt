@@ -19,7 +19,8 @@ use Rattle.analog.specs.declared.HalfCode.{HalfCode}
 use Rattle.analog.specs.declared.HalfCode.the-variants.{Code, OutOfRange}
 use Rattle.w83782d_record.specs.declared.samples.Sample.{Sample}
 use Rattle.w83782d_map.specs.Map.{cells}
-use Rattle.w83782d_sample.specs.Stored.{fanCount, divisorPlaces, divisorOf, sampledHalves, storedCount, storedReadings, isStopped, sampleAnswer}
+use Rattle.w83782d_sample.specs.Stored.{divisorPlaces, divisorOf, sampledHalves, storedCount, storedReadings, isStopped, sampleAnswer}
+use Rattle.w83782d_map.specs.Cells.{fanCount}
 use Rattle.w83782d_sample.specs.StoredParts.{fieldOf, withCounts, withCodes, withHalves, storedIn}
 
 -- ---- where a divisor's bits lie

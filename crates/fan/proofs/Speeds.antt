@@ -7,7 +7,7 @@ use mathlib.Core.Path.{_≡_, sym, subst, ap, _∙_}
 use borrow.Author.Tests.{eq-eqb, ne-eqb}
 use Rattle.fan.specs.declared.Speed.the-variants.{Rpm, TooFast, TooSlow}
 use Rattle.fan.specs.Count.{perMinute}
-use Rattle.rounding.specs.Rounding.{nearest}
+use Rattle.numbers.specs.Rounding.{nearest}
 use Rattle.fan.specs.Speed.{countSpeed}
 
 module _ (count d : ℕ) where

@@ -1,5 +1,5 @@
--- Temperatures (rules S-4, A-3): in two's complement, sensor 1 whole degrees in a byte, sensors 2 and 3 half degrees in nine
--- bits.
+-- Temperatures in two's complement (rules S-4, A-3): sensor 1 whole degrees in a byte, sensors 2 and 3 half degrees in
+-- nine bits.
 use Prim.Native.Nat.{ℕ, _+_, _*_, _/_, _%_}
 use mathlib.Core.Path.{_≡_}
 use mathlib.Core.Bool.{Bool, not, _||_}

@@ -5,19 +5,15 @@ use mathlib.Core.Path.{_≡_, ap, sym, _∙_}
 use mathlib.Core.Bool.{true, false}
 use lib.IntN.{ℤ}
 use mir.Syntax.{w16}
-use mir.Val.{toZ, ofZ}
 use mir.ValLaws.{toZ-ofZ}
 use borrow.Author.Needs.{needs}
 use Rattle.numbers.specs.TwosComplement.{half9, codeOf}
 use Rattle.analog.specs.Temperature.{outside}
 use Rattle.numbers.proofs.twos_complement.Complement.{code-lt}
+use Rattle.numbers.proofs.twos_complement.Turned.{read}
 use Rattle.analog.proofs.Halves.{held, half-out, half-in, half-answered}
 use Rattle.analog.proofs.half_code.Statement.{statement}
 use Rattle.analog.proofs.half_code.Tie as tie
-
--- a number as the machine reads it
-abbrev read : ℤ → ℤ
-read z = toZ w16 (ofZ w16 z)
 
 is-outside-requires : tie.Need-is-outside-requires
 is-outside-requires c κs = search needs

@@ -27,8 +27,8 @@ is-code c =
 
 cast-result : tie.Need-cast-result
 cast-result c =
-    let s = c .before in
-    record { fits = omega (arith, is-code c, code-lt half8 (s .args .degrees) (byte-holds (s .args .degrees) (s .fits .degrees))) }
+    let z = c .before .args .degrees in
+    record { fits = omega (arith, is-code c, code-lt half8 z (byte-holds z (c .before .fits .degrees))) }
 
 returns : tie.Need-returns
 returns c = is-code c

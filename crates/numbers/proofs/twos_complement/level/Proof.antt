@@ -27,7 +27,8 @@ rem-result c = search needs
 cast-result : tie.Need-cast-result
 cast-result c =
     let half = c .half-of in
-    record { fits = omega (arith, level-lt (half .result) (c .before .args .code) (half .ensures .1), half .ensures .2) }
+    let small = level-lt (half .result) (c .before .args .code) (half .ensures .1) in
+    record { fits = omega (arith, small, half .ensures .2) }
 
 returns : tie.Need-returns
 returns c =

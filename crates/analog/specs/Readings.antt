@@ -8,7 +8,7 @@ use lib.IntN.{ℤ, pos, negsuc, negℤ, _-ℤ_}
 use lib.ListN.{getD}
 use Rattle.answers.specs.Answers as answers
 use Rattle.bits.specs.Bits.{choose}
-use Rattle.rounding.specs.Rounding.{nearest}
+use Rattle.numbers.specs.Rounding.{nearest}
 use Rattle.analog.specs.declared.voltages.Reading.{Reading}
 use Rattle.analog.specs.declared.voltages.Reading.the-variants.{Millivolts, Refused, WrongLength}
 

@@ -1,17 +1,16 @@
 // Readings of the analog side but voltages: temperatures and which half degrees are out of range, PWM duty.
 ghost use mathlib.Core.Path.{_≡_};
-ghost use mathlib.Core.Bool.{true};
-ghost use Prim.Native.Nat.{_*_, _≤_, _<_};
+ghost use Prim.Native.Nat.{_<_};
 ghost use Rattle.bits.specs.Bits.{choose};
-ghost use Rattle.analog.specs.Temperature.{half8, half9, signedOf, codeOf, holds, levelOf, nineBits, outside, halfCodeOf, halfAnswer, TwosComplement};
+ghost use Rattle.numbers.specs.TwosComplement.{half8, half9, signedOf, codeOf, levelOf, TwosComplement};
+ghost use Rattle.analog.specs.Temperature.{nineBits, outside, halfCodeOf, halfAnswer, NineBits};
 ghost use Rattle.analog.specs.Pwm.{pwmParts};
+use numbers::twos_complement::Width;
+use numbers::twos_complement::code_of;
+use numbers::twos_complement::level;
+use numbers::twos_complement::signed;
 
 pub mod voltages;
-
-// Half the range of a byte, and of nine bits.
-const HALF_8: u16 = 128;
-
-const HALF_9: u16 = 256;
 
 // The half degrees that sensors 2 and 3 have.
 const LOWEST: i16 = -256;
@@ -33,36 +32,6 @@ pub enum HalfCode {
     OutOfRange,
 }
 
-// A two's complement code of the half range, as a signed number.
-fn signed(half: u16, code: u16) -> i16
-    requires { ⌜ (half ≤ 256) × (code < 2 * half) ⌝ }
-    ensures { λ r. ⌜ r ≡ signedOf half code ⌝ }
-{
-    if code < half {
-        return code as i16;
-    }
-    0 - (2 * half - code) as i16
-}
-
-// The code of a signed number that the half range holds.
-fn code_of(half: u16, z: i16) -> u16
-    requires { ⌜ (half ≤ 256) × (holds half z ≡ true) ⌝ }
-    ensures { λ r. ⌜ (r ≡ codeOf half z) × (r < 2 * half) ⌝ }
-{
-    if z < 0 {
-        return (z + (2 * half) as i16) as u16;
-    }
-    z as u16
-}
-
-// The level of a code: 0 for the lowest number.
-fn level(half: u16, code: u16) -> u16
-    requires { ⌜ (0 < half) × (half ≤ 256) × (code < 2 * half) ⌝ }
-    ensures { λ r. ⌜ (r ≡ levelOf half code) × (r < 2 * half) ⌝ }
-{
-    (code + half) % (2 * half)
-}
-
 // Nine bits: a byte, and bit 7 of the byte below it.
 fn nine_bits(high: u8, low: u8) -> u16
     ensures { λ r. ⌜ (r ≡ nineBits high low) × (r < 512) ⌝ }
@@ -74,21 +43,21 @@ fn nine_bits(high: u8, low: u8) -> u16
 pub fn whole_degrees(code: u8) -> i8
     ensures { λ r. ⌜ (r ≡ signedOf half8 code) × TwosComplement ⌝ }
 {
-    signed(HALF_8, code as u16) as i8
+    signed(Width::Eight, code as u16) as i8
 }
 
 // The byte of whole degrees.
 pub fn whole_code(degrees: i8) -> u8
     ensures { λ r. ⌜ r ≡ codeOf half8 degrees ⌝ }
 {
-    code_of(HALF_8, degrees as i16) as u8
+    code_of(Width::Eight, degrees as i16) as u8
 }
 
 // The half degrees of two bytes.
 pub fn half_degrees(high: u8, low: u8) -> i16
-    ensures { λ r. ⌜ (r ≡ signedOf half9 (nineBits high low)) × TwosComplement ⌝ }
+    ensures { λ r. ⌜ (r ≡ signedOf half9 (nineBits high low)) × TwosComplement × NineBits ⌝ }
 {
-    signed(HALF_9, nine_bits(high, low))
+    signed(Width::Nine, nine_bits(high, low))
 }
 
 // Whether half degrees are outside -256 to 255.
@@ -109,7 +78,7 @@ pub fn half_code(halves: i16) -> HalfCode
     if is_outside(halves) {
         return HalfCode::OutOfRange;
     }
-    let code = code_of(HALF_9, halves);
+    let code = code_of(Width::Nine, halves);
     HalfCode::Code {
         high: (code / 2) as u8,
         low: (code % 2) as u8 * BIT_7,
@@ -120,14 +89,14 @@ pub fn half_code(halves: i16) -> HalfCode
 pub fn whole_level(code: u8) -> u8
     ensures { λ r. ⌜ r ≡ levelOf half8 code ⌝ }
 {
-    level(HALF_8, code as u16) as u8
+    level(Width::Eight, code as u16) as u8
 }
 
 // The level of two bytes, 0 at -256 half degrees.
 pub fn half_level(high: u8, low: u8) -> u16
     ensures { λ r. ⌜ r ≡ levelOf half9 (nineBits high low) ⌝ }
 {
-    level(HALF_9, nine_bits(high, low))
+    level(Width::Nine, nine_bits(high, low))
 }
 
 // How many of 256 parts a PWM byte is on.

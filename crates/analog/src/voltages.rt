@@ -3,7 +3,7 @@ ghost use mathlib.Core.Path.{_≡_};
 ghost use Prim.Native.Nat.{_^_, _<_};
 ghost use lib.IntN.{pos, _-ℤ_};
 ghost use Rattle.analog.specs.Readings.{nearestZ, isResistor, railOf, millivoltsOf, VoltageAnswers};
-use rounding::rounded;
+use numbers::rounding::rounded;
 
 // The largest resistor that is taken, in kilo-ohm.
 const MOST_KILO_OHM: u32 = 1000;

@@ -5,14 +5,14 @@ use mathlib.Core.Bool.{Bool, true, false}
 use Prim.Native.Nat.{ℕ, _+_, _-_, _*_, _/_, _%_, _^_, _<_, min, max}
 use native.Mathlib.Nat.{mod-lt, zero-div}
 use native.Mathlib.Omega.{arith}
-use lib.Dec.{eqb, eqb→eq, lit<}
+use lib.Dec.{lit<}
 use lib.Bits.{bitAnd, bitOr, and-shr, or-shr, and-mod, or-mod, and-mask}
 use borrow.Author.Tests.{eqb-true, eqb-false}
 use Rattle.bits.specs.Bits.{bit, isOn, mergeOf, numberOf, choose}
 use Rattle.bits.specs.Claims.{MergeTakes}
 use Rattle.bits.specs.declared.Bit.{Bit}
 use Rattle.bits.specs.declared.Bit.the-variants.{B0, B1, B2, B3, B4, B5, B6, B7}
-use Rattle.bits.proofs.Every.{every-at2, same-below, same-below2}
+use Rattle.bits.proofs.Every.{same-below, same-below2}
 
 -- ---- a choice, by its two cases
 pub choose-ind : {A : Type 0} (P : A → Type 0) (b : Bool) (x y : A) → (b ≡ true → P x) → (b ≡ false → P y) → P (choose b x y)
@@ -55,46 +55,42 @@ pub shifted : (d j : ℕ) → d < 2 → j < 8 → d * 2 ^ j % 256 ≡ d * 2 ^ j
 shifted = same-below2 2 8 (λ d j. d * 2 ^ j % 256) (λ d j. d * 2 ^ j) tt
 
 -- ---- masks, bit by bit
-and-digit : ℕ → ℕ → Bool
-and-digit x y = eqb (bitAnd x y) (min x y)
-
-or-digit : ℕ → ℕ → Bool
-or-digit x y = eqb (bitOr x y) (max x y)
+-- an operation f that keeps bits apart does to each bit what it does to one
+bit-by-bit : (f g : ℕ → ℕ → ℕ) → ((a b k : ℕ) → f a b / 2 ^ k ≡ f (a / 2 ^ k) (b / 2 ^ k)) → ((a b k : ℕ) → f a b % 2 ^ k ≡ f (a % 2 ^ k) (b % 2 ^ k))
+    → ((x y : ℕ) → x < 2 → y < 2 → f x y ≡ g x y)
+    → (a b j : ℕ) → bit (f a b) j ≡ g (bit a j) (bit b j)
+unfolding bit
+bit-by-bit f g shifts cuts one a b j =
+    ap (λ (x : ℕ). x % 2) (shifts a b j) ∙ cuts (a / 2 ^ j) (b / 2 ^ j) 1
+    ∙ one (a / 2 ^ j % 2) (b / 2 ^ j % 2) (mod-lt (a / 2 ^ j) (lit< tt)) (mod-lt (b / 2 ^ j) (lit< tt))
 
 pub and-bit : (a b j : ℕ) → bit (bitAnd a b) j ≡ min (bit a j) (bit b j)
-unfolding bit and-digit
-and-bit a b j =
-    ap (λ (x : ℕ). x % 2) (and-shr a b j) ∙ and-mod (a / 2 ^ j) (b / 2 ^ j) 1
-    ∙ eqb→eq _ _ (every-at2 and-digit 2 2 tt (a / 2 ^ j % 2) (b / 2 ^ j % 2) (mod-lt (a / 2 ^ j) (lit< tt)) (mod-lt (b / 2 ^ j) (lit< tt)))
+and-bit = bit-by-bit bitAnd min and-shr and-mod (same-below2 2 2 bitAnd min tt)
 
 pub or-bit : (a b j : ℕ) → bit (bitOr a b) j ≡ max (bit a j) (bit b j)
-unfolding bit or-digit
-or-bit a b j =
-    ap (λ (x : ℕ). x % 2) (or-shr a b j) ∙ or-mod (a / 2 ^ j) (b / 2 ^ j) 1
-    ∙ eqb→eq _ _ (every-at2 or-digit 2 2 tt (a / 2 ^ j % 2) (b / 2 ^ j % 2) (mod-lt (a / 2 ^ j) (lit< tt)) (mod-lt (b / 2 ^ j) (lit< tt)))
+or-bit = bit-by-bit bitOr max or-shr or-mod (same-below2 2 2 bitOr max tt)
 
 not-bit : (m j : ℕ) → m < 256 → j < 8 → bit (255 - m) j ≡ 1 - bit m j
 unfolding bit
 not-bit = same-below2 256 8 (λ m j. bit (255 - m) j) (λ m j. 1 - bit m j) tt
 
 -- ---- a merge
-kept-digit : ℕ → ℕ → Bool
-kept-digit o b = eqb (max (min o 1) (min b 0)) o
-
-given-digit : ℕ → ℕ → Bool
-given-digit o b = eqb (max (min o 0) (min b 1)) b
+merge-bit : (o m b j : ℕ) → m < 256 → j < 8
+    → bit (mergeOf o m b) j ≡ max (min (bit o j) (1 - bit m j)) (min (bit b j) (bit m j))
+unfolding mergeOf
+merge-bit o m b j hm hj = simp (or-bit, and-bit, not-bit m j hm hj)
 
 -- where the mask has 0 the old bit stays
 pub merge-kept : (o m b j : ℕ) → m < 256 → j < 8 → bit m j ≡ 0 → bit (mergeOf o m b) j ≡ bit o j
-unfolding kept-digit mergeOf
 merge-kept o m b j hm hj e =
-    simp (or-bit, and-bit, not-bit m j hm hj, e) (eqb→eq _ _ (every-at2 kept-digit 2 2 tt (bit o j) (bit b j) (bit-lt o j) (bit-lt b j)))
+    merge-bit o m b j hm hj ∙ ap (λ (k : ℕ). max (min (bit o j) (1 - k)) (min (bit b j) k)) e
+    ∙ same-below2 2 2 (λ x y. max (min x 1) (min y 0)) (λ x y. x) tt (bit o j) (bit b j) (bit-lt o j) (bit-lt b j)
 
 -- where the mask has 1 the byte's bit is taken
 pub merge-given : (o m b j : ℕ) → m < 256 → j < 8 → bit m j ≡ 1 → bit (mergeOf o m b) j ≡ bit b j
-unfolding given-digit mergeOf
 merge-given o m b j hm hj e =
-    simp (or-bit, and-bit, not-bit m j hm hj, e) (eqb→eq _ _ (every-at2 given-digit 2 2 tt (bit o j) (bit b j) (bit-lt o j) (bit-lt b j)))
+    merge-bit o m b j hm hj ∙ ap (λ (k : ℕ). max (min (bit o j) (1 - k)) (min (bit b j) k)) e
+    ∙ same-below2 2 2 (λ x y. max (min x 0) (min y 1)) (λ x y. y) tt (bit o j) (bit b j) (bit-lt o j) (bit-lt b j)
 
 -- ---- tests and numbers
 abbrev pub one-if : Bool → ℕ

@@ -1,13 +1,11 @@
 -- The three cases of a speed.
 -- Assumes nothing.
-use Prim.Native.Nat.{ℕ, _+_, _*_, _<_}
-use native.Mathlib.Nat.{mul-comm, mul-assoc, div-mul-le-self, lt-mul-div-succ}
-use native.Mathlib.Omega.{arith}
-use mathlib.Core.Path.{_≡_, sym, subst, ap, _∙_}
+use Prim.Native.Nat.{ℕ, _*_}
+use mathlib.Core.Path.{_≡_, ap, _∙_}
 use borrow.Author.Tests.{eq-eqb, ne-eqb}
 use Rattle.fan.specs.declared.Speed.the-variants.{Rpm, TooFast, TooSlow}
 use Rattle.fan.specs.Count.{perMinute}
-use Rattle.rounding.specs.Rounding.{nearest}
+use Rattle.numbers.specs.Rounding.{nearest}
 use Rattle.fan.specs.Speed.{countSpeed}
 
 module _ (count d : ℕ) where

@@ -3,7 +3,7 @@ use Prim.Native.Nat.{ℕ, _*_}
 use lib.Dec.{eqb}
 use Rattle.answers.specs.Answers as answers
 use Rattle.bits.specs.Bits.{choose}
-use Rattle.rounding.specs.Rounding.{nearest}
+use Rattle.numbers.specs.Rounding.{nearest}
 use Rattle.fan.specs.declared.Speed.{Speed}
 use Rattle.fan.specs.declared.Speed.the-variants.{Rpm, TooFast, TooSlow, Refused, WrongLength}
 use Rattle.fan.specs.Count.{perMinute}

@@ -11,7 +11,7 @@ pub mod planner;
 use bits::fields::Field;
 use bits::fields::gather;
 use bits::fields::replace;
-use rounding::rounded;
+use numbers::rounding::rounded;
 
 // What a fan at one turn a minute counts.
 pub const PER_MINUTE: u32 = 1350000;

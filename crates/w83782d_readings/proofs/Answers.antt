@@ -12,7 +12,7 @@ use lib.Dec.{eqb}
 use lib.IntN.{pos}
 use lib.ListN.{getD}
 use Rattle.bits.specs.Bits.{choose, isBeyond}
-use Rattle.rounding.specs.Rounding.{nearest}
+use Rattle.numbers.specs.Rounding.{nearest}
 use Rattle.fan.specs.Count.{perMinute, valueOf}
 use Rattle.fan.specs.Speed as fan
 use Rattle.fan.specs.declared.Speed.{Speed}

@@ -16,7 +16,8 @@ use Rattle.fan.specs.declared.Divisor.{Divisor}
 use Rattle.fan.specs.declared.Speed.{Speed}
 use Rattle.fan.specs.declared.Speed.the-variants as speed
 use Rattle.analog.specs.Readings.{millivoltsOf, VoltageAnswers}
-use Rattle.analog.specs.Temperature.{TwosComplement}
+use Rattle.numbers.specs.TwosComplement.{TwosComplement}
+use Rattle.analog.specs.Temperature.{NineBits}
 use Rattle.analog.specs.Pwm.{pwmParts}
 use Rattle.analog.specs.declared.voltages.Reading.{Reading}
 use Rattle.analog.specs.declared.voltages.Reading.the-variants as reading
@@ -67,15 +68,15 @@ module _ (rs : List ℕ) (f : ℕ) (w : length rs ≡ cells) where
       simp (eq-eqb (length rs) cells w, le-ltb f 1 h, le-ltb 3 f k) (er ∙ ap₂ (λ (x : ℕ) (y : Divisor). fan.countSpeed x (valueOf y)) en (ed ∙ ap (divisorAt rs) ep))
 
 module _ (rs : List ℕ) (n : ℕ) (w : length rs ≡ cells) where
-  pub sensor-1 : (h : ℕ) (z : ℤ) → n ≡ 1 → h ≡ getD rs 7 0 → (z ≡ halfDegrees h 0) × TwosComplement → temperature.HalfDegrees z ≡ temperatureOf rs n
+  pub sensor-1 : (h : ℕ) (z : ℤ) → n ≡ 1 → h ≡ getD rs 7 0 → (z ≡ halfDegrees h 0) × TwosComplement × NineBits → temperature.HalfDegrees z ≡ temperatureOf rs n
   unfolding temperatureOf temperatureAt
   sensor-1 h z e f g = simp (eq-eqb (length rs) cells w, e) (ap temperature.HalfDegrees (g .0 ∙ ap (λ (x : ℕ). halfDegrees x 0) f))
 
-  pub sensor-2 : (h l : ℕ) (z : ℤ) → n ≡ 2 → h ≡ getD rs 64 0 → l ≡ getD rs 65 0 → (z ≡ halfDegrees h l) × TwosComplement → temperature.HalfDegrees z ≡ temperatureOf rs n
+  pub sensor-2 : (h l : ℕ) (z : ℤ) → n ≡ 2 → h ≡ getD rs 64 0 → l ≡ getD rs 65 0 → (z ≡ halfDegrees h l) × TwosComplement × NineBits → temperature.HalfDegrees z ≡ temperatureOf rs n
   unfolding temperatureOf temperatureAt
   sensor-2 h l z e f k g = simp (eq-eqb (length rs) cells w, e) (ap temperature.HalfDegrees (g .0 ∙ ap₂ halfDegrees f k))
 
-  pub sensor-3 : (h l : ℕ) (z : ℤ) → n ≡ 3 → h ≡ getD rs 80 0 → l ≡ getD rs 81 0 → (z ≡ halfDegrees h l) × TwosComplement → temperature.HalfDegrees z ≡ temperatureOf rs n
+  pub sensor-3 : (h l : ℕ) (z : ℤ) → n ≡ 3 → h ≡ getD rs 80 0 → l ≡ getD rs 81 0 → (z ≡ halfDegrees h l) × TwosComplement × NineBits → temperature.HalfDegrees z ≡ temperatureOf rs n
   unfolding temperatureOf temperatureAt
   sensor-3 h l z e f k g = simp (eq-eqb (length rs) cells w, e) (ap temperature.HalfDegrees (g .0 ∙ ap₂ halfDegrees f k))
 

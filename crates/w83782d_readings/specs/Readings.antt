@@ -11,7 +11,8 @@ use Rattle.fan.specs.Speed as fan
 use Rattle.fan.specs.declared.Speed.{Speed}
 use Rattle.fan.specs.declared.Speed.the-variants as speed
 use Rattle.analog.specs.Readings.{millivoltsOf}
-use Rattle.analog.specs.Temperature.{half9, signedOf, nineBits}
+use Rattle.numbers.specs.TwosComplement.{half9, signedOf}
+use Rattle.analog.specs.Temperature.{nineBits}
 use Rattle.analog.specs.Pwm.{pwmParts}
 use Rattle.analog.specs.declared.voltages.Reading.{Reading}
 use Rattle.analog.specs.declared.voltages.Reading.the-variants as reading

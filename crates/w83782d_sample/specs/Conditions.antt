@@ -7,7 +7,8 @@ use lib.Dec.{ltb, eqb}
 use lib.ListN.{getD}
 use Rattle.bits.specs.Bits.{choose, isOn, word}
 use Rattle.fan.specs.Count.{overLimit}
-use Rattle.analog.specs.Temperature.{half8, half9, levelOf, nineBits}
+use Rattle.numbers.specs.TwosComplement.{half8, half9, levelOf}
+use Rattle.analog.specs.Temperature.{nineBits}
 use Rattle.sensor.specs.declared.Mode.{Mode}
 use Rattle.sensor.specs.declared.Mode.the-variants.{Comparator, Interrupt}
 use Rattle.w83782d_map.specs.Cells.{bankCell, fanCount, fanLimit, highLimit, lowByte, lowLimit, ovtProperty, sensor1Hysteresis, sensor1Over, sensor1Value, sensorHysteresis, sensorOver, voltage}

@@ -14,7 +14,8 @@ use Rattle.fan.specs.Count.{valueOf, storedOf}
 use Rattle.fan.specs.Divisors.{divisorAt}
 use Rattle.fan.specs.declared.Divisor.{Divisor}
 use Rattle.fan.specs.declared.Undivided.{Undivided}
-use Rattle.analog.specs.Temperature.{half8, codeOf, outside, halfCodeOf, halfHigh, halfLow}
+use Rattle.numbers.specs.TwosComplement.{half8, codeOf}
+use Rattle.analog.specs.Temperature.{outside, halfCodeOf, halfHigh, halfLow}
 use Rattle.w83782d_record.specs.declared.samples.Sample.{Sample}
 use Rattle.w83782d_map.specs.Cells.{bankCell, configuration, fanCount, lowByte, pinControl, sensor1Value, vbatFanDivisor, vidFanDivisor, voltage}
 

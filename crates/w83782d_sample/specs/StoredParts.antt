@@ -5,7 +5,8 @@ use lib.IntN.{ℤ}
 use Rattle.bits.specs.Bits.{choose}
 use Rattle.bits.specs.declared.Bit.{Bit}
 use Rattle.bits.specs.declared.fields.Field.{Field}
-use Rattle.analog.specs.Temperature.{half8, codeOf, halfCodeOf, halfHigh, halfLow}
+use Rattle.numbers.specs.TwosComplement.{half8, codeOf}
+use Rattle.analog.specs.Temperature.{halfCodeOf, halfHigh, halfLow}
 use Rattle.w83782d_record.specs.declared.samples.Sample.{Sample}
 use Rattle.w83782d_map.specs.Map.{fits}
 use Rattle.w83782d_sample.specs.Stored.{place, sampledCode, storedCount, rails, fans, puts, _≔_, storedReadings}

@@ -4,8 +4,8 @@ use mathlib.Core.Path.{ap, _∙_}
 use mir.Syntax.{w16}
 use mir.ValLaws.{toZ-ofZ}
 use borrow.Author.Needs.{needs}
-use Rattle.analog.specs.Temperature.{signedOf, half9}
-use Rattle.analog.proofs.Complement.{twos-complement-holds}
+use Rattle.numbers.specs.TwosComplement.{signedOf, half9}
+use Rattle.analog.proofs.Halves.{nine-bits-hold}
 use Rattle.analog.proofs.half_degrees.Statement.{statement}
 use Rattle.analog.proofs.half_degrees.Tie as tie
 
@@ -17,9 +17,10 @@ signed-requires c κs = search needs
 
 returns : tie.Need-returns
 returns c = (
-  toZ-ofZ w16 (c .signed .result) (record { sfits = c .signed .ok }) ∙ c .signed .ensures
+  toZ-ofZ w16 (c .signed .result) (record { sfits = c .signed .ok }) ∙ c .signed .ensures .0
       ∙ ap (signedOf half9) (c .before .nine-bits .ensures .0),
-  twos-complement-holds,
+  c .signed .ensures .1,
+  nine-bits-hold,
 )
 
 pub half-degrees-spec : {M : Type 1} → statement M

@@ -12,9 +12,9 @@ use Rattle.bits.specs.Bits.{choose}
 use Rattle.analog.specs.declared.voltages.Reading.{Reading}
 use Rattle.analog.specs.declared.voltages.Reading.the-variants.{Millivolts, Refused}
 use Rattle.analog.specs.Readings.{nearestZ, reading, readingAnswer, isResistor, railOf, millivoltsOf, answerFor, VoltageAnswers}
-use Rattle.rounding.specs.Rounding.{nearest}
-use Rattle.rounding.proofs.Quotients.{nearest-le}
-use Rattle.analog.proofs.Signs.{minus-is, plus-is}
+use Rattle.numbers.specs.Rounding.{nearest}
+use Rattle.numbers.proofs.rounding.Quotients.{nearest-le}
+use Rattle.numbers.proofs.Signs.{minus-is, plus-is}
 
 -- the quotient by its magnitude
 pub below : (a b d : ℕ) → a < b → negℤ (pos (nearest (b - a) d)) ≡ nearestZ (pos a -ℤ pos b) d

@@ -8,13 +8,18 @@ use Rattle.sensor.proofs.output_step.Tie as tie
 enum-told : tie.Need-enum-told
 enum-told c = search needs
 
+mark-if-requires : tie.Need-mark-if-requires
+mark-if-requires c κs = search needs
+
 returns : tie.Need-returns
 unfolding outputOf
-returns c = simp (c .before .enum-told .given .1, c .if1 .taken)
+returns c = simp (c .before .before .enum-told .given .1, c .before .mark-if .ensures, c .if1 .taken)
 
 returns-2 : tie.Need-returns-2
 unfolding outputOf
-returns-2 c = simp (c .before .before .enum-told .given .1, c .before .if1 .left, c .if2 .taken)
+returns-2 c =
+    let s = c .before .before in
+    simp (s .before .enum-told .given .1, s .mark-if .ensures, c .before .if1 .left, c .if2 .taken)
 
 enum-told-2 : tie.Need-enum-told-2
 enum-told-2 c = search needs
@@ -35,7 +40,9 @@ returns-4 c = simp (c .before .before .before .enum-told2 .given .1, c .before .
 
 returns-5 : tie.Need-returns-5
 unfolding outputOf
-returns-5 c = simp (c .before .before .enum-told .given .1, c .before .if1 .left, c .if2 .left)
+returns-5 c =
+    let s = c .before .before in
+    simp (s .before .enum-told .given .1, s .mark-if .ensures, c .before .if1 .left, c .if2 .left)
 
 returns-6 : tie.Need-returns-6
 unfolding outputOf
@@ -50,6 +57,7 @@ output-step-spec =
     tie.close
     (tie.spec
     enum-told
+    mark-if-requires
     returns
     returns-2
     enum-told-2

@@ -8,9 +8,8 @@ use Rattle.sensor.proofs.status_step.Tie as tie
 enum-told : tie.Need-enum-told
 enum-told c = search needs
 
-returns : tie.Need-returns
-unfolding statusOf
-returns c = simp (c .before .enum-told .given .1, c .if1 .taken)
+mark-if-requires : tie.Need-mark-if-requires
+mark-if-requires c κs = search needs
 
 enum-told-2 : tie.Need-enum-told-2
 enum-told-2 c = search needs
@@ -18,40 +17,40 @@ enum-told-2 c = search needs
 enum-told-3 : tie.Need-enum-told-3
 enum-told-3 c = search needs
 
-returns-2 : tie.Need-returns-2
+returns : tie.Need-returns
 unfolding statusOf
-returns-2 c = simp (c .before .before .before .enum-told2 .given .1, c .before .enum-told3 .given .1, c .if2 .taken)
+returns c = simp (c .before .before .before .enum-told2 .given .1, c .before .enum-told3 .given .1, c .if1 .taken)
 
 enum-told-4 : tie.Need-enum-told-4
 enum-told-4 c = search needs
 
+returns-2 : tie.Need-returns-2
+unfolding statusOf
+returns-2 c = simp (c .before .before .before .enum-told2 .given .1, c .before .enum-told4 .given .1, c .if2 .taken)
+
 returns-3 : tie.Need-returns-3
 unfolding statusOf
-returns-3 c = simp (c .before .before .before .enum-told2 .given .1, c .before .enum-told4 .given .1, c .if3 .taken)
+returns-3 c = simp (c .before .enum-told .given .1, c .mark-if .ensures)
 
 returns-4 : tie.Need-returns-4
 unfolding statusOf
-returns-4 c = simp (c .before .enum-told .given .1, c .if1 .left)
+returns-4 c = simp (c .before .before .before .enum-told2 .given .1, c .before .enum-told3 .given .1, c .if1 .left)
 
 returns-5 : tie.Need-returns-5
 unfolding statusOf
-returns-5 c = simp (c .before .before .before .enum-told2 .given .1, c .before .enum-told3 .given .1, c .if2 .left)
-
-returns-6 : tie.Need-returns-6
-unfolding statusOf
-returns-6 c = simp (c .before .before .before .enum-told2 .given .1, c .before .enum-told4 .given .1, c .if3 .left)
+returns-5 c = simp (c .before .before .before .enum-told2 .given .1, c .before .enum-told4 .given .1, c .if2 .left)
 
 pub status-step-spec : {M : Type 1} → statement M
 status-step-spec =
     tie.close
     (tie.spec
     enum-told
-    returns
+    mark-if-requires
     enum-told-2
     enum-told-3
-    returns-2
+    returns
     enum-told-4
+    returns-2
     returns-3
     returns-4
-    returns-5
-    returns-6)
+    returns-5)

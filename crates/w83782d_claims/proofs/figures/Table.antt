@@ -1,7 +1,7 @@
 -- The marked figures hold: the table is whole, and both columns compute to the same list.
 -- Assumes nothing.
 use mathlib.Core.Path.{refl}
-use Rattle.rounding.specs.Rounding.{nearest}
+use Rattle.numbers.specs.Rounding.{nearest}
 use Rattle.fan.specs.Count.{fromBits}
 use Rattle.fan.specs.Search.{better, bestTo, planOf}
 use Rattle.fan.specs.Speed.{countSpeed}

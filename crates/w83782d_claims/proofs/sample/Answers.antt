@@ -6,8 +6,9 @@ use Prim.Native.Nat.{ℕ, _<_, _≤_}
 use native.Mathlib.Omega.{arith}
 use lib.Dec.{eqb, lit<}
 use Rattle.bits.specs.Bits.{choose}
-use Rattle.analog.specs.Temperature.{half9, holds, outside}
-use Rattle.analog.proofs.Complement.{held}
+use Rattle.numbers.specs.TwosComplement.{half9, holds}
+use Rattle.analog.specs.Temperature.{outside}
+use Rattle.analog.proofs.Halves.{held}
 use Rattle.w83782d_record.specs.declared.samples.Sample.{Sample}
 use Rattle.w83782d_bus.proofs.registers.Cases.{both}
 use Rattle.w83782d_bus.specs.Bus.{State}

@@ -16,8 +16,10 @@ use lib.Signed.{ltZ}
 use Rattle.bits.specs.Bits.{bit, flagOf}
 use Rattle.bits.proofs.BitLaws.{or-bit}
 use Rattle.bits.proofs.Flags.{word-bit}
-use Rattle.analog.specs.Temperature.{half8, half9, holds, codeOf, levelOf, signedOf, nineBits, halfCodeOf, halfHigh, halfLow}
-use Rattle.analog.proofs.Complement.{twos-complement-holds, code-lt, half-in, inside}
+use Rattle.numbers.specs.TwosComplement.{half8, half9, holds, codeOf, levelOf, signedOf}
+use Rattle.analog.specs.Temperature.{nineBits, halfCodeOf, halfHigh, halfLow}
+use Rattle.numbers.proofs.twos_complement.Complement.{twos-complement-holds, code-lt}
+use Rattle.analog.proofs.Halves.{nine-bits-hold, half-in, inside}
 use Rattle.sensor.specs.Sensor.{remote}
 use Rattle.sensor.specs.declared.Status.{Status}
 use Rattle.sensor.specs.declared.Output.{Output}
@@ -65,7 +67,7 @@ nine-lt : (high low : ℕ) → high < 256 → low < 256 → nineBits high low < 
 nine-lt high low h l = omega arith
 
 nine-code : (z : ℤ) → holds half9 z ≡ true → nineBits (halfHigh (halfCodeOf z)) (halfLow (halfCodeOf z)) ≡ codeOf half9 z
-nine-code z e = rw (← half-in z (codeOf half9 z) (inside z e) refl) (twos-complement-holds .bytes (codeOf half9 z))
+nine-code z e = rw (← half-in z (codeOf half9 z) (inside z e) refl) (nine-bits-hold .bytes (codeOf half9 z))
 
 module _ (s : State) (x : Sample) (w : length (s .registers) ≡ cells) where
   abbrev t : List ℕ

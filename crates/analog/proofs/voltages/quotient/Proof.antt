@@ -6,7 +6,7 @@ use lib.IntN.{pos, negℤ}
 use mir.Syntax.{w32}
 use mir.ValLaws.{toZ-pos}
 use borrow.Author.Needs.{needs}
-use Rattle.analog.proofs.Signs.{neg-fits, neg-back}
+use Rattle.numbers.proofs.Signs.{neg-fits, neg-back}
 use Rattle.analog.proofs.voltages.Voltages.{below, above, is-small}
 use Rattle.analog.proofs.voltages.quotient.Statement.{statement}
 use Rattle.analog.proofs.voltages.quotient.Tie as tie

@@ -3,7 +3,7 @@ use mathlib.Core.Path.{ap, _∙_}
 use mir.Syntax.{w8}
 use mir.Val.{SFits}
 use mir.ValLaws.{toZ-ofZ}
-use Rattle.analog.specs.Temperature.{half8, codeOf}
+use Rattle.numbers.specs.TwosComplement.{half8, codeOf}
 use lib.ListN.{length-set}
 use Rattle.w83782d_sample.specs.StoredParts.{withCodes}
 use Rattle.w83782d_sample.proofs.store.store_codes.Statement.{statement}

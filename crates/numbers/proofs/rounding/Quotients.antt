@@ -5,7 +5,7 @@ use native.Mathlib.Nat.{mul-comm, mul-assoc, div-mul-le-self, div-le-self, lt-mu
 use native.Mathlib.Numerals.{add-one}
 use native.Mathlib.Omega.{arith}
 use mathlib.Core.Path.{_≡_, sym, subst, ap, _∙_}
-use Rattle.rounding.specs.Rounding.{nearest, Nearest}
+use Rattle.numbers.specs.Rounding.{nearest, Nearest}
 
 -- 2 q d is q times 2 d
 doubled : (q d : ℕ) → 2 * q * d ≡ q * (2 * d)

@@ -3,10 +3,10 @@
 use mathlib.Core.Path.{refl}
 use Prim.Native.Nat.{_^_}
 use borrow.Author.Needs.{needs}
-use Rattle.rounding.specs.Rounding.{nearest}
-use Rattle.rounding.proofs.Quotients.{nearest-holds, by-zero, within}
-use Rattle.rounding.proofs.rounded.Statement.{statement}
-use Rattle.rounding.proofs.rounded.Tie as tie
+use Rattle.numbers.specs.Rounding.{nearest}
+use Rattle.numbers.proofs.rounding.Quotients.{nearest-holds, by-zero, within}
+use Rattle.numbers.proofs.rounding.rounded.Statement.{statement}
+use Rattle.numbers.proofs.rounding.rounded.Tie as tie
 
 returns : tie.Need-returns
 returns c = (by-zero _ _ (c .if1 .taken), nearest-holds)

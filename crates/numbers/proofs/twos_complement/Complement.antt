@@ -1,21 +1,19 @@
 -- Two's complement over any half range: there and back, and levels in the order of the signed numbers.
 -- By the two halves of the codes. Assumes nothing.
-use Prim.Native.Nat.{ℕ, suc, _+_, _-_, _*_, _/_, _%_, _^_, _≤_, _<_}
-use native.Mathlib.Nat.{mod-eq-of-lt, mod-lt, add-mod-right, mul-div-cancel}
+use Prim.Native.Nat.{ℕ, suc, _+_, _-_, _*_, _%_, _≤_, _<_}
+use native.Mathlib.Nat.{mod-eq-of-lt, mod-lt, add-mod-right}
 use native.Mathlib.Omega.{arith}
 use mathlib.Core.Path.{_≡_, refl, sym, ap, ap₂, subst, _∙_}
-use mathlib.Core.Bool.{Bool, true, false, not, _||_}
-use lib.Dec.{T, ltb, lit<}
-use lib.IntN.{ℤ, pos, negsuc, negℤ, natAbs, _+ℤ_}
-use lib.Signed.{ltZ, nonNeg}
+use mathlib.Core.Bool.{Bool, true, false}
+use lib.Dec.{ltb}
+use lib.IntN.{ℤ, pos, negsuc, negℤ}
+use lib.Signed.{ltZ}
 use mir.Syntax.{w8, w16}
 use mir.Val.{SFits, toZ, ofZ}
-use mir.ValLaws.{toZ-ofZ, toZ-pos}
+use mir.ValLaws.{toZ-ofZ}
 use borrow.Author.Tests.{ltb-true, ltb-false, lt-ltb, le-ltb}
 use Rattle.bits.specs.Bits.{choose}
-use Rattle.analog.specs.Temperature.{half8, half9, signedOf, codeOf, holds, levelOf, nineBits, outside, halfCodeOf, halfAnswer, TwosComplement}
-use Rattle.analog.specs.declared.HalfCode.{HalfCode}
-use Rattle.analog.specs.declared.HalfCode.the-variants.{Code, OutOfRange}
+use Rattle.numbers.specs.TwosComplement.{half8, signedOf, codeOf, holds, levelOf, TwosComplement}
 
 pub low-half : (h code : ℕ) → code < h → pos code ≡ signedOf h code
 unfolding signedOf
@@ -100,92 +98,15 @@ module _ (h a b : ℕ) (fa : a < 2 * h) (fb : b < 2 * h) where
           ∙ agree (a - h) (b - h) (2 * h - 1 - b) (2 * h - 1 - a) (λ x. omega arith) (λ x. omega arith)
           ∙ ap₂ ltZ (sym (upper h a la fa)) (sym (upper h b lb fb))
 
-bytes : (code : ℕ) → nineBits (code / 2) (code % 2 * 128) ≡ code
-bytes code =
-    let e : code % 2 * 128 / 128 ≡ code % 2 = mul-div-cancel (code % 2) (lit< tt) in
-    omega arith
-
 pub level-lt : (h code : ℕ) → 0 < h → levelOf h code < 2 * h
 level-lt h code p = mod-lt (code + h) (omega arith)
 
--- -256 to 255 is what nine bits hold
-not-below : (n : ℕ) → ltb 255 n ≡ not (ltb n 256)
-not-below n = go (ltb n 256) refl
-  where
-    go : (b : Bool) → ltb n 256 ≡ b → ltb 255 n ≡ not (ltb n 256)
-    go true e = rw (e, le-ltb 255 n (omega (arith, ltb-true n 256 e)))
-    go false e = rw (e, lt-ltb 255 n (omega (arith, ltb-false n 256 e)))
-
-or-none : (b : Bool) → (b || false) ≡ b
-or-none true = refl
-or-none false = refl
-
-beyond : (z : ℤ) → outside z ≡ not (holds half9 z)
-unfolding outside
-beyond (pos n) = not-below n
-beyond (negsuc n) = or-none (ltb 255 n) ∙ not-below n
-
--- the tests in the code's order
-module _ (z : ℤ) where
-  pub too-cold : ltZ z (negsuc 255) ≡ true → true ≡ outside z
-  unfolding outside
-  too-cold e = simp e
-
-  pub too-hot : ltZ z (negsuc 255) ≡ false → ltZ (pos 255) z ≡ outside z
-  unfolding outside
-  too-hot e = simp e
-
 pub twos-complement-holds : TwosComplement
-twos-complement-holds = record { there = there; back = back; in-range = in-range; beyond = beyond; bytes = bytes; levels = levels }
+twos-complement-holds = record { there = there; back = back; in-range = in-range; levels = levels }
 
 pub code-lt : (h : ℕ) (z : ℤ) → holds h z ≡ true → codeOf h z < 2 * h
 code-lt h (pos n) e = omega (arith, ltb-true n h e)
 code-lt h (negsuc n) e = omega (arith, ltb-true n h e)
-
--- the sum that the code makes of a negative number, and a number that is none
-sum-is : (h : ℕ) (z : ℤ) → holds h z ≡ true → ltZ z (pos 0) ≡ true → z +ℤ pos (2 * h) ≡ pos (codeOf h z)
-sum-is h (pos n) e p = absurd (omega (arith, ltb-true n 0 p))
-sum-is h (negsuc n) e p = simp (le-ltb (2 * h) (suc n) (omega (arith, ltb-true n h e)))
-
-plain-is : (h : ℕ) (z : ℤ) → ltZ z (pos 0) ≡ false → z ≡ pos (codeOf h z)
-plain-is h (pos n) p = refl
-plain-is h (negsuc n) p = let z : _≡_ {A = ℕ} 0 1 = cc in absurd (omega arith)
-
--- the machine reads a number back that is not negative
-pub read-back : (x : ℤ) (n : ℕ) → x ≡ pos n → n < 2 ^ 15 → toZ w16 (ofZ w16 x) ≡ pos n
-read-back x n e h = ap (λ (z : ℤ). toZ w16 (ofZ w16 z)) e ∙ toZ-pos w16 n h
-
-module _ (h : ℕ) (t : ℤ) (fits : SFits w16 t) (small : h ≤ 256) (e : holds h t ≡ true) where
-  abbrev z : ℤ
-  z = toZ w16 (ofZ w16 t)
-
-  same : z ≡ t
-  same = toZ-ofZ w16 t fits
-
-  pub code-small : codeOf h t < 2 ^ 15
-  code-small = omega (arith, code-lt h t e)
-
-  module _ (p : ltZ z (pos 0) ≡ true) where
-    pub summed : z +ℤ toZ w16 (2 * h) ≡ pos (codeOf h t)
-    summed =
-        ap₂ (λ (a b : ℤ). a +ℤ b) same (toZ-pos w16 (2 * h) (omega arith))
-        ∙ sum-is h t e (ap (λ (x : ℤ). ltZ x (pos 0)) (sym same) ∙ p)
-
-    pub sum-fits : SFits w16 (z +ℤ toZ w16 (2 * h))
-    sum-fits = subst (SFits w16) (sym summed) (record { sfits = code-small })
-
-    pub sum-code : toZ w16 (ofZ w16 (z +ℤ toZ w16 (2 * h))) ≡ pos (codeOf h t)
-    sum-code = read-back (z +ℤ toZ w16 (2 * h)) (codeOf h t) summed code-small
-
-  pub plain-code : ltZ z (pos 0) ≡ false → z ≡ pos (codeOf h t)
-  plain-code p = same ∙ plain-is h t (ap (λ (x : ℤ). ltZ x (pos 0)) (sym same) ∙ p)
-
--- what is known of a number that a cast to an unsigned width takes
-pub not-negative : (x : ℤ) (n : ℕ) → x ≡ pos n → T (nonNeg x)
-not-negative x n e = subst (λ (y : ℤ). T (nonNeg y)) (sym e) tt
-
-pub magnitude : (x : ℤ) (n : ℕ) → x ≡ pos n → natAbs x ≡ n
-magnitude x n e = ap natAbs e
 
 -- a byte holds what a signed byte says, and the other way
 pub byte-holds : (z : ℤ) → SFits w8 z → holds half8 z ≡ true
@@ -206,37 +127,6 @@ kept-wide z f = ap (λ (x : ℤ). toZ w16 (ofZ w16 x)) (toZ-ofZ w8 z f) ∙ toZ-
 pub kept-byte : (z : ℤ) → SFits w8 z → toZ w8 (ofZ w8 (toZ w16 (ofZ w16 z))) ≡ z
 kept-byte z f = ap (λ (x : ℤ). toZ w8 (ofZ w8 x)) (toZ-ofZ w16 z (widens z f)) ∙ toZ-ofZ w8 z f
 
--- the degrees of a byte fit a signed byte
-pub degrees-fit : (code : ℕ) (z : ℤ) → code < 256 → z ≡ signedOf half8 code → SFits w8 z
-degrees-fit code z h e = subst (SFits w8) (sym e) (holds-byte (signedOf half8 code) (in-range half8 code h))
-
--- ---- the bytes of half degrees, by their cases
-module _ (z : ℤ) where
-  pub half-out : outside z ≡ true → OutOfRange ≡ halfCodeOf z
-  unfolding halfCodeOf
-  half-out e = simp e
-
-  pub half-in : (r : ℕ) → outside z ≡ false → r ≡ codeOf half9 z → Code (r / 2) (r % 2 * 128) ≡ halfCodeOf z
-  unfolding halfCodeOf
-  half-in r e q = simp e (ap (λ (n : ℕ). Code (n / 2) (n % 2 * 128)) q)
-
-  half-answer : halfAnswer (halfCodeOf z) ≡ choose (outside z) 3 0
-  unfolding halfCodeOf
-  half-answer = go (outside z)
-    where
-      go : (t : Bool) → halfAnswer (choose t OutOfRange (Code (codeOf half9 z / 2) (codeOf half9 z % 2 * 128))) ≡ choose t 3 0
-      go true = refl
-      go false = refl
-
-  pub half-answered : (r : HalfCode) → r ≡ halfCodeOf z → (r ≡ halfCodeOf z) × (halfAnswer r ≡ choose (outside z) 3 0)
-  half-answered r e = (e, ap halfAnswer e ∙ half-answer)
-
-  pub inside : holds half9 z ≡ true → outside z ≡ false
-  inside e = beyond z ∙ ap not e
-
-  pub held : outside z ≡ false → holds half9 z ≡ true
-  held e = go (holds half9 z) (sym (beyond z) ∙ e)
-    where
-      go : (b : Bool) → not b ≡ false → b ≡ true
-      go true n = refl
-      go false n = sym n
+-- the number of a byte fits a signed byte
+pub byte-fits : (code : ℕ) (z : ℤ) → code < 256 → z ≡ signedOf half8 code → SFits w8 z
+byte-fits code z h e = subst (SFits w8) (sym e) (holds-byte (signedOf half8 code) (in-range half8 code h))

@@ -32,7 +32,7 @@ unfoldable pub isIn : List Place → ℕ → ℕ → Bool
 isIn [] k j = false
 isIn (p ∷ ps) k j = (eqb k (p .cell) && eqb j (numberOf (p .bit))) || isIn ps k j
 
--- no place of a field stands in it twice
+-- no place of a field is in it twice
 unfoldable pub distinct : List Place → Bool
 distinct [] = true
 distinct (p ∷ ps) = not (isIn ps (p .cell) (numberOf (p .bit))) && distinct ps

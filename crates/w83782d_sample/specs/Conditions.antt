@@ -60,7 +60,7 @@ statusMode rs n = choose (eqb n 1) (modeIf (eqb (getD rs sensor1Hysteresis 0) 12
 unfoldable pub outputMode : List ℕ → ℕ → Mode
 outputMode rs n = modeIf (not (isInterrupt rs n))
 
--- ---- what a sample finds: where each sensor stands, the bits of rails and fans in both bytes (the sensors' off), the OVT modes
+-- ---- what a sample finds: how each sensor compares with its limits, the bits of rails and fans in both bytes (the sensors' off), the OVT modes
 unfoldable pub comparisonOf : List ℕ → ℕ → Comparison
 comparisonOf rs n = record { mode = statusMode rs n; above = isAbove rs n; below = isBelow rs n }
 

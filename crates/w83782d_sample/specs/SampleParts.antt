@@ -11,7 +11,7 @@ use Rattle.w83782d_sample.specs.declared.Step.{Step}
 use Rattle.w83782d_sample.specs.declared.Evaluation.{Evaluation}
 use Rattle.w83782d_sample.specs.Sample.{realTimeByte, latchedByte, firstByte, secondByte, steppedLatches}
 
--- the step of sensors 2 and 3, from where the sensor stands and its OVT mode
+-- the step of sensors 2 and 3, from its comparison and its OVT mode
 unfoldable pub remoteStep : Comparison → Mode → Remote → Step
 remoteStep s o r =
     record {

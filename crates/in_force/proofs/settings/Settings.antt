@@ -1,4 +1,4 @@
--- A plan set: its limit and its divisor's bits stand in the registers, and what is another fan's or nobody's stays.
+-- A plan set: its limit and its divisor's bits are in the registers, and what is another fan's or nobody's stays.
 -- Each law is over where a fan's settings lie. Assumes nothing.
 use mathlib.Core.Path.{_≡_, refl, sym, ap, ap₂, subst, _∙_}
 use mathlib.Core.Bool.{Bool, true, false, not, _||_, _&&_}
@@ -143,7 +143,7 @@ merge-whole : (o l : ℕ) → l < 256 → mergeOf o 255 l ≡ l
 unfolding mergeOf
 merge-whole o l h = rw (and-zero-r, or-zero-l (bitAnd l 255)) (and-mask l 8 ∙ mod-eq-of-lt h)
 
--- the divisor that stands is the three bits that are gathered
+-- the divisor that is set is the three bits that are gathered
 pub divisor-of-bits : (rs : List ℕ) (f : Fan) (d : Divisor) → gatherOf rs (f .places) ≡ exponentOf d → divisorIn rs f ≡ d
 unfolding divisorAt
 divisor-of-bits rs f d e = ap fromBits e ∙ from-exponent d
@@ -193,7 +193,7 @@ module _ (rs : List ℕ) (f : Fan) (d : Divisor) (l : ℕ) where
       ∙ other-stays limited (f .places) (g .places) (exponentOf d) (a .places)
       ∙ gather-other (g .places) rs (f .limit) _ (a .bits)
 
-  -- what was set stands
+  -- what was set is there
   module _ (s : Sound (length rs) f) where
     pub put-limit : l < 256 → limitIn put f ≡ l
     put-limit k =

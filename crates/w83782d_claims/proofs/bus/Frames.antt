@@ -193,7 +193,7 @@ read-cells rs c k h = go (eqb c interruptStatus1 || eqb c interruptStatus2) (ℕ
 abbrev after-read : List ℕ → ℕ → ℕ → Remote → Remote
 after-read rs c n r = choose (releases rs c n) (releasedOf r) r
 
--- (past the end there is none, and `armed` stands in for it on both sides)
+-- (past the end there is none, and `armed` takes its place on both sides)
 set-remote : (rs : List Remote) (m n : ℕ) → getD (set rs m (releasedOf (getD rs m armed))) n armed ≡ choose (eqb n m) (releasedOf (getD rs n armed)) (getD rs n armed)
 set-remote rs m n = go (ℕ-discrete n m) (decLt m (length rs))
   where

@@ -63,7 +63,7 @@ absent-listed b i hb hi =
 bank-lt : (rs : List ℕ) → bankOf rs < 8
 bank-lt rs = mask-lt (getD rs bankSelect 0) 3
 
--- the answers of a cell, told by whether it is present and writable
+-- the answers of a cell, by whether it is present and writable
 write-1 : (c : ℕ) → eqb (writeAnswer c) 1 ≡ not (presentAt c)
 unfolding writeAnswer
 write-1 c =

@@ -53,7 +53,7 @@ byte-holds (negsuc n) f = lt-ltb n 128 (f .sfits)
 pub fits-byte : (x : Sample) → SFits w8 (x .sensor1) → Fits x
 fits-byte x f = byte-holds (x .sensor1) f
 
--- ---- levels compare as the signed numbers, and a number's code stands for it
+-- ---- levels compare as the signed numbers, and a number is given by its code
 module _ (h : ℕ) (z : ℤ) (c : ℕ) (e : holds h z ≡ true) (l : c < 2 * h) where
   level-above : ltb (levelOf h c) (levelOf h (codeOf h z)) ≡ ltZ (signedOf h c) z
   level-above =

@@ -1,4 +1,4 @@
--- A list of stores, cell by cell: the last byte stored to a cell, or what it held; and what a sample leaves, so told.
+-- A list of stores, cell by cell: the last byte stored to a cell, or what it held; and what a sample leaves, in these terms.
 -- Assumes nothing.
 use mathlib.Core.Path.{_≡_, refl, ap, sym, subst, _∙_}
 use mathlib.Core.Bool.{Bool, true, false}

@@ -13,9 +13,10 @@ use Rattle.w83782d_replay.specs.Events.{callFor}
 use Rattle.w83782d_claims.proofs.alarm.Alarm.{fit, alarm-rings}
 use Rattle.w83782d.specs.declared.Monitor.{Monitor}
 use Rattle.w83782d.specs.Monitor.{stateOf, applyOf}
-use Rattle.w83782d.specs.Alarm.{answerOf, byValue, MonitorCalls}
+use Rattle.w83782d.specs.Alarm.{withoutByte, answerOf, byValue, MonitorCalls}
 
-same : (m : Monitor) (c : Call) → written (stateOf (answerOf m c .monitor)) (answerOf m c .answer) ≡ answerTo (stateOf m) c
+same : (m : Monitor) (c : Call)
+    → written (stateOf (answerOf m c .monitor)) (answerOf m c .answer) ≡ answerTo (stateOf m) c
 same m (write i v) = refl
 same m (read i) = refl
 same m (sample x) = refl
@@ -24,7 +25,7 @@ same m (setPlan f w) = refl
 
 -- by the kind
 applied : (m : Monitor) (k : Kind) (x : Sample)
-    → record { monitor = applyOf m (record { kind = k; sample = x }) .monitor; answer = applyOf m (record { kind = k; sample = x }) .answer } ≡ answerOf m (callFor k x)
+    → withoutByte (applyOf m (record { kind = k; sample = x })) ≡ answerOf m (callFor k x)
 applied m (kind.Write i v) x = refl
 applied m (kind.Read i) x = refl
 applied m kind.Sample x = refl

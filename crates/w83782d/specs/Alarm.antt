@@ -1,5 +1,5 @@
--- Demand 3 by value. The claim itself, `AlarmRings`, is in w83782d_claims and about registers and latches; here is that the methods'
--- definitions are its calls, so that it is about them and every list of them.
+-- Demand 3 by value. The claim itself, `AlarmRings`, is in w83782d_claims and about registers and latches; here is that
+-- the methods' definitions are its calls, so that it is about them and every list of them.
 use mathlib.Core.Path.{_≡_}
 use Prim.Native.Nat.{ℕ}
 use lib.ListN.{length}
@@ -12,12 +12,17 @@ use Rattle.w83782d_claims.specs.Alarm.{Call, write, read, sample, chassis, setP
 use Rattle.w83782d_replay.specs.Events.{callFor}
 use Rattle.w83782d.specs.declared.Monitor.{Monitor}
 use Rattle.w83782d.specs.declared.Answered.{Answered}
+use Rattle.w83782d.specs.declared.Shown.{Shown}
 use Rattle.w83782d.specs.Monitor.{stateOf, writeOf, readOf, sampleOf, openedOf, setPlanOf, applyOf}
+
+-- what a read or an event answers beside its byte
+abbrev pub withoutByte : Shown → Answered
+withoutByte r = record { monitor = r .monitor; answer = r .answer }
 
 -- each call is answered by the definition that its method's contract cites
 abbrev pub answerOf : Monitor → Call → Answered
 answerOf m (write i v) = writeOf m i v
-answerOf m (read i) = record { monitor = readOf m i .monitor; answer = readOf m i .answer }
+answerOf m (read i) = withoutByte (readOf m i)
 answerOf m (sample x) = sampleOf m x
 answerOf m chassis = openedOf m
 answerOf m (setPlan f w) = setPlanOf m f w
@@ -34,10 +39,10 @@ byValue =
 
 pub record MonitorCalls : Type 0 where
   -- a call on the monitor is that call on its registers and latches
-  pub calls : (m : Monitor) (c : Call) → written (stateOf (answerOf m c .monitor)) (answerOf m c .answer) ≡ answerTo (stateOf m) c
+  pub calls : (m : Monitor) (c : Call)
+      → written (stateOf (answerOf m c .monitor)) (answerOf m c .answer) ≡ answerTo (stateOf m) c
   -- so is applying an event
-  pub events : (m : Monitor) (e : Event)
-      → record { monitor = applyOf m e .monitor; answer = applyOf m e .answer } ≡ answerOf m (callFor (e .kind) (e .sample))
+  pub events : (m : Monitor) (e : Event) → withoutByte (applyOf m e) ≡ answerOf m (callFor (e .kind) (e .sample))
   -- and the byte that a read shows is the one that the claim looks at
   pub byte : (m : Monitor) (i : ℕ) → readOf m i .byte ≡ Bus.readOf (stateOf m) i .byte
   -- so a list of calls is that list, and the claim is true at each of them

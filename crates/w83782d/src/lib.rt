@@ -1,5 +1,5 @@
 // The hardware monitor W83782D by value: each event takes the monitor and hands it back with the answer.
-// The work is done in place by the crates below; these methods are its thin face.
+// The work is done in place by the crates below; each method takes registers and latches out and wraps that call.
 ghost use mathlib.Core.Path.{_≡_};
 ghost use Rattle.w83782d_claims.specs.BusClaims.{WriteClaims, ReadClaims, OpenedClaims};
 ghost use Rattle.w83782d_claims.specs.SampleClaims.{SampleClaims};
@@ -9,7 +9,9 @@ ghost use Rattle.w83782d_replay.specs.Events.{EventCalls};
 ghost use Rattle.w83782d_bus.specs.Ovt.{ovtOf};
 ghost use Rattle.w83782d_readings.specs.Outputs.{smiOf, standingAlarms};
 ghost use Rattle.w83782d_readings.specs.Readings.{voltageOf, speedOf, temperatureOf, dutyOf};
-ghost use Rattle.w83782d.specs.Monitor.{stateOf, powerOnOf, writeOf, readOf, sampleOf, openedOf, setPlanOf, applyOf};
+ghost use Rattle.w83782d_bus.specs.Bus.{state, written, read};
+ghost use Rattle.w83782d.specs.Monitor.{stateOf, answered, shown};
+ghost use Rattle.w83782d.specs.Monitor.{powerOnOf, writeOf, readOf, sampleOf, openedOf, setPlanOf, applyOf};
 ghost use Rattle.w83782d.specs.Alarm.{MonitorCalls};
 use analog::voltages::Reading;
 use answers::ACCEPTED;
@@ -48,6 +50,30 @@ pub struct Shown {
     pub byte: u8,
 }
 
+impl Answered {
+    // The monitor of these registers and latches, with the answer.
+    fn of(registers: [u8; 112], latches: Latches, answer: u8) -> Answered
+        ensures { λ r. ⌜ r ≡ answered (written (state registers latches) answer) ⌝ }
+    {
+        let monitor = Monitor { registers, latches };
+        Answered { monitor, answer }
+    }
+}
+
+impl Shown {
+    // The same with the byte shown.
+    fn of(registers: [u8; 112], latches: Latches, answer: u8, byte: u8) -> Shown
+        ensures { λ r. ⌜ r ≡ shown (read (state registers latches) answer byte) ⌝ }
+    {
+        let monitor = Monitor { registers, latches };
+        Shown {
+            monitor,
+            answer,
+            byte,
+        }
+    }
+}
+
 impl Monitor {
     // As power-on leaves it.
     pub fn power_on() -> Self
@@ -68,14 +94,7 @@ impl Monitor {
         let latches = self.latches;
         let done = write_in(&mut registers, latches, index, value);
         let after = done.latches;
-        self = Monitor {
-            registers,
-            latches: after,
-        };
-        Answered {
-            monitor: self,
-            answer: done.answer,
-        }
+        Answered::of(registers, after, done.answer)
     }
 
     // A bus read: answered 0 with the byte, or 1 with the byte 0 and the monitor as it was.
@@ -87,15 +106,7 @@ impl Monitor {
         let latches = self.latches;
         let done = read_in(&mut registers, latches, index);
         let after = done.latches;
-        self = Monitor {
-            registers,
-            latches: after,
-        };
-        Shown {
-            monitor: self,
-            answer: done.answer,
-            byte: done.byte,
-        }
+        Shown::of(registers, after, done.answer, done.byte)
     }
 
     // The chassis was opened: always answered 0.
@@ -106,14 +117,7 @@ impl Monitor {
         let registers = self.registers;
         let latches = self.latches;
         let after = latches.opened();
-        self = Monitor {
-            registers,
-            latches: after,
-        };
-        Answered {
-            monitor: self,
-            answer: ACCEPTED,
-        }
+        Answered::of(registers, after, ACCEPTED)
     }
 
     // A sample: answered 0, or 3 or 4 with the monitor as it was.
@@ -126,19 +130,12 @@ impl Monitor {
         let latches = self.latches;
         let done = sample_in(&mut registers, latches, x);
         let after = done.latches;
-        self = Monitor {
-            registers,
-            latches: after,
-        };
-        Answered {
-            monitor: self,
-            answer: done.answer,
-        }
+        Answered::of(registers, after, done.answer)
     }
 
-    // An alarm for a fan, 1 to 3, at a speed of 1 to 1,350,000 turns a minute: answered 0, or 7 or 6 with the monitor as it was.
-    // What that means for this fan, speed and monitor is `SetsAlarm`; over every list of calls, `AlarmRings`; that those calls are
-    // these methods, and lists of them, `MonitorCalls`.
+    // An alarm for a fan, 1 to 3, at a speed of 1 to 1,350,000 turns a minute: answered 0, or 7 or 6 with the monitor
+    // as it was. What that means for this fan, speed and monitor is `SetsAlarm`; over every list of calls,
+    // `AlarmRings`; that those calls are these methods, and lists of them, `MonitorCalls`.
     pub fn set_plan(mut self, fan: u8, rpm: u32) -> Answered
         ensures equation { λ r. ⌜ r ≡ setPlanOf self fan rpm ⌝ }
         ensures claims { λ r. ⌜ PlanClaims (stateOf self) fan rpm ⌝ }
@@ -150,14 +147,7 @@ impl Monitor {
         let latches = self.latches;
         let done = set_plan_in(&mut registers, latches, fan, rpm);
         let after = done.latches;
-        self = Monitor {
-            registers,
-            latches: after,
-        };
-        Answered {
-            monitor: self,
-            answer: done.answer,
-        }
+        Answered::of(registers, after, done.answer)
     }
 
     // Any event: its answer, and the byte of an accepted read, else 0. A refused event leaves the monitor as it was.
@@ -169,15 +159,7 @@ impl Monitor {
         let latches = self.latches;
         let done = take_in(&mut registers, latches, event);
         let after = done.latches;
-        self = Monitor {
-            registers,
-            latches: after,
-        };
-        Shown {
-            monitor: self,
-            answer: done.answer,
-            byte: done.byte,
-        }
+        Shown::of(registers, after, done.answer, done.byte)
     }
 
     // Whether SMI is asserted.

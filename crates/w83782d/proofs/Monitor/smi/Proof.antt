@@ -1,5 +1,5 @@
 use borrow.Author.Needs.{needs}
-use Rattle.w83782d.proofs.Faces.{smi-face, never-short}
+use Rattle.w83782d.proofs.Wrappers.{smi-shown, never-short}
 use Rattle.w83782d.proofs.Monitor.smi.Statement.{statement}
 use Rattle.w83782d.proofs.Monitor.smi.Tie as tie
 
@@ -16,7 +16,7 @@ enum-told : tie.Need-enum-told
 enum-told c = search needs
 
 returns : tie.Need-returns
-returns c = search (needs, smi-face)
+returns c = search (needs, smi-shown)
 
 returns-2 : tie.Need-returns-2
 returns-2 c = search (needs, never-short)

@@ -1,5 +1,5 @@
 use borrow.Author.Needs.{needs}
-use Rattle.w83782d.proofs.Faces.{alarms-face, never-short}
+use Rattle.w83782d.proofs.Wrappers.{alarms-shown, never-short}
 use Rattle.w83782d.proofs.Monitor.standing_alarms.Statement.{statement}
 use Rattle.w83782d.proofs.Monitor.standing_alarms.Tie as tie
 
@@ -19,7 +19,7 @@ enum-told : tie.Need-enum-told
 enum-told c = search needs
 
 returns : tie.Need-returns
-returns c = search (needs, alarms-face)
+returns c = search (needs, alarms-shown)
 
 returns-2 : tie.Need-returns-2
 returns-2 c = search (needs, never-short)

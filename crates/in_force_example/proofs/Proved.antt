@@ -26,7 +26,7 @@ use Rattle.in_force.specs.Chip.{reset, writing, Whole}
 use Rattle.in_force.specs.Laws.{Keeps, Stores, Leaves, AnsweredAs, Takes, ChipLaws}
 use Rattle.in_force.proofs.Instances.{isOf, keeps-cells, within, isWide, all-wide, bus-write}
 use Rattle.in_force.proofs.Chips.{every-chip}
-use Rattle.alarm_example.specs.Machine.{State, state, fanOf, maskAt, powerOn, Call, write, look, sample, setPlan, putBack, countOf, isReset, slow, back, registersAfter, answerTo, looksAfter, after, kindOf, machine, AlarmRings}
+use Rattle.in_force_example.specs.Machine.{State, state, fanOf, maskAt, powerOn, Call, write, look, sample, setPlan, putBack, countOf, isReset, slow, back, registersAfter, answerTo, looksAfter, after, kindOf, machine, AlarmRings}
 
 -- ---- where the settings lie
 sound : (f : ℕ) → 1 ≤ f → f ≤ 2 → isSound 5 (fanOf f) ≡ true

@@ -1,48 +1,37 @@
 // A short bus session, as a driver's: it finds the chip, switches banks, and is refused in each way.
 // A line for each access: what it was, the answer, and the byte that a read shows.
-use libc::STDOUT_FILENO;
+use crate::lines::hex;
+use crate::lines::print_answer;
+use crate::lines::text;
 use w83782d::Monitor;
-
-fn hex(byte: u8) {
-    io::print_hex(STDOUT_FILENO, byte as u64, 2);
-}
-
-fn answered(answer: u8) {
-    io::write_all(STDOUT_FILENO, b": answer ");
-    io::print_decimal(STDOUT_FILENO, answer as u64);
-}
-
-fn end_line() {
-    io::write_all(STDOUT_FILENO, b"\n");
-}
 
 fn write(m: Monitor, index: u8, value: u8) -> Monitor {
     let done = m.write(index, value);
-    io::write_all(STDOUT_FILENO, b"write ");
+    text(b"write ");
     hex(index);
-    io::write_all(STDOUT_FILENO, b" ");
+    text(b" ");
     hex(value);
-    answered(done.answer);
-    end_line();
+    print_answer(done.answer);
+    text(b"\n");
     done.monitor
 }
 
 fn read(m: Monitor, index: u8) -> Monitor {
     let done = m.read(index);
-    io::write_all(STDOUT_FILENO, b"read ");
+    text(b"read ");
     hex(index);
-    answered(done.answer);
-    io::write_all(STDOUT_FILENO, b", byte ");
+    print_answer(done.answer);
+    text(b", byte ");
     hex(done.byte);
-    end_line();
+    text(b"\n");
     done.monitor
 }
 
 fn opened(m: Monitor) -> Monitor {
     let done = m.chassis_opened();
-    io::write_all(STDOUT_FILENO, b"chassis opened");
-    answered(done.answer);
-    end_line();
+    text(b"chassis opened");
+    print_answer(done.answer);
+    text(b"\n");
     done.monitor
 }
 
@@ -105,7 +94,7 @@ fn chassis_and_reset(start: Monitor) -> Monitor {
     m
 }
 
-fn main() {
+pub fn session() {
     let mut m = Monitor::power_on();
     m = detect(m);
     m = banks(m);

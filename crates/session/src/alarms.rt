@@ -1,32 +1,30 @@
 // A session of plans: alarms set for the three fans, mixed with the writes, resets and refusals that end them or don't.
-// A line for each step: the answer, the divisors' registers, the three limits, and which fans' real-time bits bank 4 shows.
+// A line for each step: the answer, the divisors' registers, the three limits, and which fans' real-time bits bank 4
+// shows.
 //
-// What each line must say, from the rules. Power-on has 47h 50h (fans 1 and 2 by 2), 4Bh 44h (fan 3 by 2), 5Dh 00h, limits 0.
+// What each line must say, from the rules. Power-on has 47h 50h (fans 1 and 2 by 2), 4Bh 44h (fan 3 by 2), 5Dh 00h,
+// limits 0.
 //   1 at 4400        d 2, L 152 (98h): fan 1's bits of 47h are 01 as before. The real-time bits wait for a sample.
 //   u 305, u 306     (L+1)d is 306: 305 doesn't ring and 306 does.
-//   2 at 42          d 128, L 250 (FAh): 47h bits 7-6 are 11 and 5Dh bit 6 is 1; fan 1's bits stay, and it rings as before.
+//   2 at 42          d 128, L 250 (FAh): 47h bits 7-6 are 11 and 5Dh bit 6 is 1; fan 1's bits stay, and it rings as
+//                    before.
 //   2 slow           (L+1)d is 32,128: fan 2 rings there and not at 32,127.
 //   47h 90           the whole of 47h for fan 2, fan 1's bits as they were: fan 1's plan goes on.
 //   47h C0           fan 1's bits wiped: its plan ended, and by d 1 it rings at 305 already.
-//   1 again          the plan set anew, 47h D0h; 7Bh is 3Bh: 98h written there again ends nothing, 10h does, and u 40 (20 by 2)
-//                    is then above the limit 16.
-//   3 at 5295        in bank 3 and in standby: d 1, L 253 (FDh), 4Bh bits 7-6 are 00. A sample is answered 4 and rings nothing.
+//   1 again          the plan set anew, 47h D0h; 7Bh is 3Bh: 98h written there again ends nothing, 10h does, and u 40
+//                    (20 by 2) is then above the limit 16.
+//   3 at 5295        in bank 3 and in standby: d 1, L 253 (FDh), 4Bh bits 7-6 are 00. A sample is answered 4 and rings
+//                    nothing.
 //   3 slow           back from standby: 254 rings and 253 doesn't.
 //   refused          fan 4, and fan 0 at speed 0: 7; fan 3 at 0 and at 1,350,001: 6. Nothing changes.
 //   reset            40h 80h: power-on values again, and fan 3 rings by d 2 and limit 0: u 1 is 0 by 2, u 2 is 1.
+use crate::lines::flag;
+use crate::lines::hex;
+use crate::lines::print_answer;
+use crate::lines::text;
 use fan::Undivided;
-use libc::STDOUT_FILENO;
 use w83782d::Monitor;
 use w83782d_record::samples::Sample;
-
-fn text(line: &[u8]) {
-    io::write_all(STDOUT_FILENO, line);
-}
-
-fn hex(byte: u8) {
-    text(b" ");
-    io::print_hex(STDOUT_FILENO, byte as u64, 2);
-}
 
 fn byte_at(m: Monitor, index: u8) -> u8 {
     let done = m.read(index);
@@ -38,40 +36,38 @@ fn select(m: Monitor, bank: u8) -> Monitor {
     done.monitor
 }
 
-fn flag(byte: u8, mask: u8) {
-    if byte & mask == 0 {
-        text(b" 0");
-        return;
-    }
-    text(b" 1");
+// The byte that an index shows, after a space.
+fn spaced(m: Monitor, index: u8) {
+    text(b" ");
+    hex(byte_at(m, index));
 }
 
 // The registers that a plan writes, of a copy: what is shown clears nothing and selects no bank.
 fn settings(m: Monitor) {
     let zero = select(m, 0);
     text(b", 47h");
-    hex(byte_at(m, 0x47));
+    spaced(m, 0x47);
     text(b", 4Bh");
-    hex(byte_at(m, 0x4b));
+    spaced(m, 0x4b);
     text(b", 5Dh");
-    hex(byte_at(zero, 0x5d));
+    spaced(zero, 0x5d);
     text(b", limits");
-    hex(byte_at(m, 0x3b));
-    hex(byte_at(m, 0x3c));
-    hex(byte_at(m, 0x3d));
+    spaced(m, 0x3b);
+    spaced(m, 0x3c);
+    spaced(m, 0x3d);
 }
 
 fn report(m: Monitor, name: &[u8], answer: u8) {
     text(name);
-    text(b": answer ");
-    io::print_decimal(STDOUT_FILENO, answer as u64);
+    print_answer(answer);
     settings(m);
     let four = select(m, 4);
     let first = byte_at(four, 0x59);
     text(b", rings");
-    flag(first, 0x40);
-    flag(first, 0x80);
-    flag(byte_at(four, 0x5a), 0x08);
+    let second = byte_at(four, 0x5a);
+    flag(first & 0x40 != 0);
+    flag(first & 0x80 != 0);
+    flag(second & 0x08 != 0);
     text(b"\n");
 }
 
@@ -158,7 +154,7 @@ fn refused(start: Monitor) -> Monitor {
     m
 }
 
-fn main() {
+pub fn session() {
     let mut m = two_fans(Monitor::power_on());
     m = rewritten(m);
     m = aliased(m);

@@ -1,0 +1,12 @@
+// Sessions with a monitor, each from power-on: a driver's on the bus, one of samples, one of plans.
+// A line for each step; what it must say follows from the rules, and each module gives it.
+mod alarms;
+mod bus;
+mod lines;
+mod samples;
+
+fn main() {
+    bus::session();
+    samples::session();
+    alarms::session();
+}

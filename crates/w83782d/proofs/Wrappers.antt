@@ -9,10 +9,10 @@ use borrow.Author.Tests.{eq-eqb}
 use lib.ListN.{length}
 use Rattle.w83782d_map.specs.Map.{cells}
 use Rattle.w83782d_bus.specs.Effects.{powerOnLatches}
-use Rattle.w83782d_bus.specs.Bus.{powerOn, written, Written, Read, sized, sizedRead, wroteIn, seenIn}
+use Rattle.w83782d_bus.specs.Bus.{powerOn, written, Written, Read, sized, sizedRead, outcomeIn, readOutcomeIn}
 use Rattle.w83782d_bus.specs.declared.latches.Latches.{Latches}
-use Rattle.w83782d_bus.specs.declared.Wrote.{Wrote}
-use Rattle.w83782d_bus.specs.declared.Seen.{Seen}
+use Rattle.w83782d_bus.specs.declared.Outcome.{Outcome}
+use Rattle.w83782d_bus.specs.declared.ReadOutcome.{ReadOutcome}
 use Rattle.w83782d_readings.specs.Outputs.{smiOf, standingAlarms, outputsOf}
 use Rattle.w83782d_readings.specs.declared.outputs.Outputs.{Outputs}
 use Rattle.w83782d_readings.specs.declared.outputs.Outputs.the-variants as outputs
@@ -24,24 +24,24 @@ use Rattle.w83782d.specs.Monitor.{monitorOf, answered, shown, powerOnOf}
 abbrev pub monitor : List ℕ → Latches → Monitor
 monitor rs l = record { registers = rs; latches = l }
 
-pub power-on-wrapped : (rs ts : List ℕ) (w : Wrote) → length rs ≡ cells
-    → wroteIn ts w ≡ sized rs powerOnLatches (written powerOn 0) → monitor ts (w .latches) ≡ powerOnOf
+pub power-on-wrapped : (rs ts : List ℕ) (w : Outcome) → length rs ≡ cells
+    → outcomeIn ts w ≡ sized rs powerOnLatches (written powerOn 0) → monitor ts (w .latches) ≡ powerOnOf
 power-on-wrapped rs ts w h e =
-    let f : wroteIn ts w ≡ written powerOn 0 = rw (eq-eqb (length rs) cells h) at e in
+    let f : outcomeIn ts w ≡ written powerOn 0 = rw (eq-eqb (length rs) cells h) at e in
     ap (λ (x : Written). monitorOf (x .state)) f
 
 -- whatever the call gives where the registers fit, the method hands back
 module _ (rs : List ℕ) (l : Latches) (h : length rs ≡ cells) (ts : List ℕ) where
-  pub answered-as : (w : Wrote) (z : Written) (a : Answered) → wroteIn ts w ≡ sized rs l z
-      → a ≡ answered (wroteIn ts w) → a ≡ answered z
+  pub answered-as : (w : Outcome) (z : Written) (a : Answered) → outcomeIn ts w ≡ sized rs l z
+      → a ≡ answered (outcomeIn ts w) → a ≡ answered z
   answered-as w z a e f =
-      let g : wroteIn ts w ≡ z = rw (eq-eqb (length rs) cells h) at e in
+      let g : outcomeIn ts w ≡ z = rw (eq-eqb (length rs) cells h) at e in
       f ∙ ap answered g
 
-  pub shown-as : (r : Seen) (z : Read) (a : Shown) → seenIn ts r ≡ sizedRead rs l z
-      → a ≡ shown (seenIn ts r) → a ≡ shown z
+  pub shown-as : (r : ReadOutcome) (z : Read) (a : Shown) → readOutcomeIn ts r ≡ sizedRead rs l z
+      → a ≡ shown (readOutcomeIn ts r) → a ≡ shown z
   shown-as r z a e f =
-      let g : seenIn ts r ≡ z = rw (eq-eqb (length rs) cells h) at e in
+      let g : readOutcomeIn ts r ≡ z = rw (eq-eqb (length rs) cells h) at e in
       f ∙ ap shown g
 
 -- ---- SMI and standing alarms: a monitor's registers are 112 cells

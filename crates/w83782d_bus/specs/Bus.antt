@@ -12,8 +12,8 @@ use Rattle.w83782d_map.specs.Access.{writeAnswer, storedBits}
 use Rattle.w83782d_bus.specs.Registers.{reachOf, powerOnRegisters, resetRegisters, shownOf}
 use Rattle.w83782d_bus.specs.declared.latches.Latches.{Latches}
 use Rattle.w83782d_bus.specs.Effects.{powerOnLatches, writtenLatches, readLatches}
-use Rattle.w83782d_bus.specs.declared.Wrote.{Wrote}
-use Rattle.w83782d_bus.specs.declared.Seen.{Seen}
+use Rattle.w83782d_bus.specs.declared.Outcome.{Outcome}
+use Rattle.w83782d_bus.specs.declared.ReadOutcome.{ReadOutcome}
 
 -- ---- the state
 pub record State : Type 0 where
@@ -88,8 +88,8 @@ abbrev pub readIn : List ℕ → ℕ → List ℕ
 readIn rs c = choose (fits rs) (readRegisters rs c) rs
 
 -- what a function left in the slice, with what it returned
-abbrev pub wroteIn : List ℕ → Wrote → Written
-wroteIn rs w = written (state rs (w .latches)) (w .answer)
+abbrev pub outcomeIn : List ℕ → Outcome → Written
+outcomeIn rs w = written (state rs (w .latches)) (w .answer)
 
-abbrev pub seenIn : List ℕ → Seen → Read
-seenIn rs r = read (state rs (r .latches)) (r .answer) (r .byte)
+abbrev pub readOutcomeIn : List ℕ → ReadOutcome → Read
+readOutcomeIn rs r = read (state rs (r .latches)) (r .answer) (r .byte)

@@ -2,7 +2,7 @@
 // power-on, bus write, bus read and reset.
 ghost use mathlib.Core.Path.{_≡_};
 ghost use Rattle.w83782d_bus.specs.Effects.{powerOnLatches};
-ghost use Rattle.w83782d_bus.specs.Bus.{state, powerOn, writtenIn, writeOf, written, readIn, readOf, sized, sizedRead, wroteIn, seenIn};
+ghost use Rattle.w83782d_bus.specs.Bus.{state, powerOn, writtenIn, writeOf, written, readIn, readOf, sized, sizedRead, outcomeIn, readOutcomeIn};
 
 pub mod latches;
 pub mod registers;
@@ -28,13 +28,13 @@ use w83782d_map::is_present;
 use w83782d_map::stored_bits;
 
 // What a write answers, with the latches after it.
-pub struct Wrote {
+pub struct Outcome {
     pub latches: Latches,
     pub answer: u8,
 }
 
 // What a read answers, with the byte shown and the latches after it.
-pub struct Seen {
+pub struct ReadOutcome {
     pub latches: Latches,
     pub answer: u8,
     pub byte: u8,
@@ -43,18 +43,18 @@ pub struct Seen {
 // ---- Power-on and reset
 
 // Every cell at its power-on value. A slice that is not of 112 cells is refused as 8 and stays.
-pub fn power_on_in(s: &mut [u8]) -> Wrote
-    ensures { λ r. ⌜ wroteIn (now (s .exit)) r ≡ sized (now (s .entry)) powerOnLatches (written powerOn 0) ⌝ }
+pub fn power_on_in(s: &mut [u8]) -> Outcome
+    ensures { λ r. ⌜ outcomeIn (now (s .exit)) r ≡ sized (now (s .entry)) powerOnLatches (written powerOn 0) ⌝ }
 {
     let latches = Latches::power_on();
     if s.len() != CELLS {
-        return Wrote {
+        return Outcome {
             latches,
             answer: WRONG_LENGTH,
         };
     }
     restore(s, false);
-    Wrote {
+    Outcome {
         latches,
         answer: ACCEPTED,
     }
@@ -77,11 +77,11 @@ pub fn write_registers(s: &mut [u8], cell: usize, value: u8)
 }
 
 // A bus write in place. Refused as 1 or 2 it leaves registers and latches; a slice that is not of 112 cells is refused as 8.
-pub fn write_in(s: &mut [u8], l: Latches, index: u8, value: u8) -> Wrote
-    ensures { λ r. ⌜ wroteIn (now (s .exit)) r ≡ sized (now (s .entry)) l (writeOf (state (now (s .entry)) l) index value) ⌝ }
+pub fn write_in(s: &mut [u8], l: Latches, index: u8, value: u8) -> Outcome
+    ensures { λ r. ⌜ outcomeIn (now (s .exit)) r ≡ sized (now (s .entry)) l (writeOf (state (now (s .entry)) l) index value) ⌝ }
 {
     if s.len() != CELLS {
-        return Wrote {
+        return Outcome {
             latches: l,
             answer: WRONG_LENGTH,
         };
@@ -89,11 +89,11 @@ pub fn write_in(s: &mut [u8], l: Latches, index: u8, value: u8) -> Wrote
     let cell = reach(s, index);
     let answer = answer_to_write(cell);
     if answer != ACCEPTED {
-        return Wrote { latches: l, answer };
+        return Outcome { latches: l, answer };
     }
     write_registers(s, cell, value);
     let latches = write_latches(l, cell, value);
-    Wrote {
+    Outcome {
         latches,
         answer: ACCEPTED,
     }
@@ -117,11 +117,11 @@ pub fn read_registers(s: &mut [u8], cell: usize)
 }
 
 // A bus read in place. Refused as 1 it shows 0 and leaves registers and latches; a slice that is not of 112 cells is refused as 8.
-pub fn read_in(s: &mut [u8], l: Latches, index: u8) -> Seen
-    ensures { λ r. ⌜ seenIn (now (s .exit)) r ≡ sizedRead (now (s .entry)) l (readOf (state (now (s .entry)) l) index) ⌝ }
+pub fn read_in(s: &mut [u8], l: Latches, index: u8) -> ReadOutcome
+    ensures { λ r. ⌜ readOutcomeIn (now (s .exit)) r ≡ sizedRead (now (s .entry)) l (readOf (state (now (s .entry)) l) index) ⌝ }
 {
     if s.len() != CELLS {
-        return Seen {
+        return ReadOutcome {
             latches: l,
             answer: WRONG_LENGTH,
             byte: 0,
@@ -129,7 +129,7 @@ pub fn read_in(s: &mut [u8], l: Latches, index: u8) -> Seen
     }
     let cell = reach(s, index);
     if !is_present(cell) {
-        return Seen {
+        return ReadOutcome {
             latches: l,
             answer: ABSENT,
             byte: 0,
@@ -138,7 +138,7 @@ pub fn read_in(s: &mut [u8], l: Latches, index: u8) -> Seen
     let byte = shown(s, l.chassis, cell);
     let latches = read_latches(s, l, cell);
     read_registers(s, cell);
-    Seen {
+    ReadOutcome {
         latches,
         answer: ACCEPTED,
         byte,

@@ -15,14 +15,14 @@ pub data Question : Type 0 where
   speed : ℕ → ℕ → Question
   volts : ℕ → ℕ → ℕ → ℕ → Question
 
--- what is told: the number of the answer table, and the values
-pub record Told : Type 0 where
+-- a reply: the number of the answer table, and the values
+pub record Reply : Type 0 where
   pub answer : ℕ
   pub values : List ℤ
 
 pub record Figure : Type 0 where
   pub question : Question
-  pub told : Told
+  pub reply : Reply
 
 -- the channels of the figures
 abbrev pub plus5 : ℕ
@@ -34,25 +34,25 @@ plus12 = 4
 abbrev pub minus12 : ℕ
 minus12 = 5
 
-abbrev pub tells : Question → Told
-tells (plan w) =
+abbrev pub replyTo : Question → Reply
+replyTo (plan w) =
     record { answer = planAnswer (planOf w); values = pos (planDivisor (planOf w)) ∷ pos (planLimit (planOf w)) ∷ [] }
-tells (speed count d) = record { answer = speedAnswer (countSpeed count d); values = pos (speedValue (countSpeed count d)) ∷ [] }
-tells (volts channel c r5 r6) =
+replyTo (speed count d) = record { answer = speedAnswer (countSpeed count d); values = pos (speedValue (countSpeed count d)) ∷ [] }
+replyTo (volts channel c r5 r6) =
     record { answer = readingAnswer (millivoltsOf channel c r5 r6); values = readingValue (millivoltsOf channel c r5 r6) ∷ [] }
 
 infix 4 _⇒_
-abbrev pub _⇒_ : Question → Told → Figure
-q ⇒ t = record { question = q; told = t }
+abbrev pub _⇒_ : Question → Reply → Figure
+q ⇒ t = record { question = q; reply = t }
 
 -- a plan of d and L, no plan, and one number
-abbrev pub plan-is : ℕ → ℕ → Told
+abbrev pub plan-is : ℕ → ℕ → Reply
 plan-is d l = record { answer = 0; values = pos d ∷ pos l ∷ [] }
 
-abbrev pub no-plan : Told
+abbrev pub no-plan : Reply
 no-plan = record { answer = 6; values = pos 0 ∷ pos 0 ∷ [] }
 
-abbrev pub number-is : ℤ → Told
+abbrev pub number-is : ℤ → Reply
 number-is z = record { answer = 0; values = z ∷ [] }
 
 abbrev pub figures : List Figure
@@ -72,8 +72,8 @@ figures =
     ∷ (volts minus12 182 232 56 ⇒ number-is (pos 62))
     ∷ []
 
--- all thirteen, and every question of the table is told what the table says
+-- all thirteen, and the reply to every question of the table is what the table says
 abbrev pub Figures : Type 0
 Figures =
     (length figures ≡ 13)
-    × (map (λ (f : Figure). tells (f .question)) figures ≡ map (λ (f : Figure). f .told) figures)
+    × (map (λ (f : Figure). replyTo (f .question)) figures ≡ map (λ (f : Figure). f .reply) figures)

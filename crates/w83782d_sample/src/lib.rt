@@ -6,7 +6,7 @@ ghost use mathlib.Core.List.{[], _∷_};
 ghost use lib.ListN.{length};
 ghost use Rattle.bits.specs.Bits.{word};
 ghost use Rattle.w83782d_map.specs.Map.{cells};
-ghost use Rattle.w83782d_bus.specs.Bus.{state, sized, wroteIn};
+ghost use Rattle.w83782d_bus.specs.Bus.{state, sized, outcomeIn};
 ghost use Rattle.w83782d_sample.specs.Sample.{statusRegisters, steppedLatches, sampleOf};
 ghost use Rattle.w83782d_sample.specs.SampleParts.{remoteStep, Evaluates};
 
@@ -24,7 +24,7 @@ use sensor::Mode;
 use sensor::Remote;
 use sensor::output_step;
 use sensor::status_step;
-use w83782d_bus::Wrote;
+use w83782d_bus::Outcome;
 use w83782d_bus::latches::Latches;
 use w83782d_map::CELLS;
 use w83782d_map::INTERRUPT_STATUS_1;
@@ -134,22 +134,22 @@ fn set_status(s: &mut [u8], l: Latches) -> Latches
 // ---- The sample
 
 // A sample in place. Refused as 3 or 4 it leaves registers and latches; a slice that is not of 112 cells is refused as 8.
-pub fn sample_in(s: &mut [u8], l: Latches, x: Sample) -> Wrote
-    ensures { λ r. ⌜ wroteIn (now (s .exit)) r ≡ sized (now (s .entry)) l (sampleOf (state (now (s .entry)) l) x) ⌝ }
+pub fn sample_in(s: &mut [u8], l: Latches, x: Sample) -> Outcome
+    ensures { λ r. ⌜ outcomeIn (now (s .exit)) r ≡ sized (now (s .entry)) l (sampleOf (state (now (s .entry)) l) x) ⌝ }
 {
     if s.len() != CELLS {
-        return Wrote {
+        return Outcome {
             latches: l,
             answer: WRONG_LENGTH,
         };
     }
     let answer = answer_to(s, x);
     if answer != ACCEPTED {
-        return Wrote { latches: l, answer };
+        return Outcome { latches: l, answer };
     }
     store(s, x);
     let latches = set_status(s, l);
-    Wrote {
+    Outcome {
         latches,
         answer: ACCEPTED,
     }

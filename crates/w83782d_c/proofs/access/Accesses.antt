@@ -6,9 +6,9 @@ use Prim.Native.Nat.{ℕ, _+_, _*_}
 use borrow.Author.Tests.{eq-eqb, ne-eqb}
 use lib.ListN.{length, take, drop}
 use Rattle.w83782d_bus.specs.declared.latches.Latches.{Latches}
-use Rattle.w83782d_bus.specs.declared.Seen.{Seen}
+use Rattle.w83782d_bus.specs.declared.ReadOutcome.{ReadOutcome}
 use Rattle.w83782d_map.specs.Map.{cells}
-use Rattle.w83782d_bus.specs.Bus.{state, readOf, sizedRead, seenIn}
+use Rattle.w83782d_bus.specs.Bus.{state, readOf, sizedRead, readOutcomeIn}
 use Rattle.w83782d_claims.proofs.bus.Reached.{refused}
 use Rattle.w83782d_image.specs.Image.{imageLength, flagBytes, latchesIn, stateIn, putFrom, called}
 use Rattle.w83782d_image.proofs.Images.{shows-none, shows}
@@ -22,7 +22,7 @@ pub read-short : (im : List ℕ) (i r : ℕ) → (length im ≡ imageLength → 
 unfolding callRead
 read-short im i r n e = simp (ne-eqb (length im) imageLength n, e)
 
-module _ (im ts : List ℕ) (l : Latches) (h : length im ≡ imageLength) (el : l ≡ latchesIn im) (r : Seen) (i : ℕ) (e : seenIn ts r ≡ sizedRead (take cells im) l (readOf (state (take cells im) l) i)) where
+module _ (im ts : List ℕ) (l : Latches) (h : length im ≡ imageLength) (el : l ≡ latchesIn im) (r : ReadOutcome) (i : ℕ) (e : readOutcomeIn ts r ≡ sizedRead (take cells im) l (readOf (state (take cells im) l) i)) where
   pub read-refused : (x : ℕ) → (r .answer ≡ 0 → ⊥) → x ≡ r .answer * 256 + 0 → called (ts ++ drop cells im) x ≡ callRead im i
   unfolding callRead
   read-refused x n q = simp (eq-eqb (length im) imageLength h) (shows-none im ts l h el r (λ s. readOf s i) (refused (stateIn im) i 0 .read) e x n q)

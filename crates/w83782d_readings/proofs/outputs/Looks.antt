@@ -28,10 +28,10 @@ module _ (rs : List ℕ) (chassis : Bool) (c : ℕ) (e : c ≡ getD rs configura
     unfolding smiOf
     smi-cleared t = simp (← e, ← f, not-false a n, ← g, t)
 
-    pub smi-told : (x m y z k : ℕ) → b ≡ false → x ≡ getD rs interruptStatus1 0 → m ≡ getD rs smiMask1 0 → y ≡ getD rs interruptStatus2 0 → z ≡ withChassis y chassis → k ≡ getD rs smiMask2 0
+    pub smi-passed : (x m y z k : ℕ) → b ≡ false → x ≡ getD rs interruptStatus1 0 → m ≡ getD rs smiMask1 0 → y ≡ getD rs interruptStatus2 0 → z ≡ withChassis y chassis → k ≡ getD rs smiMask2 0
         → not (eqb (bitOr (bitAnd x (255 - m)) (bitAnd z (255 - k))) 0) ≡ smiOf rs chassis
     unfolding smiOf
-    smi-told x m y z k t ex em ey ez ek = simp (← e, ← f, not-false a n, ← g, t, ← ex, ← em, ← ek, ← ey, ← ez)
+    smi-passed x m y z k t ex em ey ez ek = simp (← e, ← f, not-false a n, ← g, t, ← ex, ← em, ← ek, ← ey, ← ez)
 
 pub alarms-few : (x z : ℕ) → x < 2 ^ 8 → z < 2 ^ 8 → ones x + ones z ≤ 16
 alarms-few x z h k = omega (arith, ones-le 8 x h, ones-le 8 z k)

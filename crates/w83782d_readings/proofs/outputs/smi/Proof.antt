@@ -1,5 +1,5 @@
 use borrow.Author.Needs.{needs}
-use Rattle.w83782d_readings.proofs.outputs.Looks.{smi-disabled, smi-cleared, smi-told}
+use Rattle.w83782d_readings.proofs.outputs.Looks.{smi-disabled, smi-cleared, smi-passed}
 use Rattle.w83782d_readings.proofs.outputs.smi.Statement.{statement}
 use Rattle.w83782d_readings.proofs.outputs.smi.Tie as tie
 
@@ -34,7 +34,7 @@ cell-requires-5 : tie.Need-cell-requires-5
 cell-requires-5 c κs = search needs
 
 returns-3 : tie.Need-returns-3
-returns-3 c = search (needs, smi-told)
+returns-3 c = search (needs, smi-passed)
 
 pub smi-spec : {M : Type 1} → statement M
 smi-spec =

@@ -1,5 +1,1 @@
-pub mod Registers
-pub mod Parts
-pub mod Effects
-pub mod Ovt
 pub mod Bus

@@ -1,19 +1,8 @@
 // The register side of the W83782D, in place on the registers' slice with the small latches by value:
 // power-on, bus write, bus read and reset.
 ghost use mathlib.Core.Path.{_≡_};
-ghost use Rattle.w83782d_bus.specs.Effects.{powerOnLatches};
+ghost use Rattle.w83782d_registers.specs.Effects.{powerOnLatches};
 ghost use Rattle.w83782d_bus.specs.Bus.{state, powerOn, writtenIn, writeOf, written, readIn, readOf, sized, sizedRead, outcomeIn, readOutcomeIn};
-
-pub mod latches;
-pub mod registers;
-
-use crate::latches::Latches;
-use crate::latches::read_latches;
-use crate::latches::write_latches;
-use crate::registers::is_command;
-use crate::registers::reach;
-use crate::registers::restore;
-use crate::registers::shown;
 use answers::ABSENT;
 use answers::ACCEPTED;
 use answers::WRONG_LENGTH;
@@ -26,6 +15,13 @@ use w83782d_map::INTERRUPT_STATUS_2;
 use w83782d_map::answer_to_write;
 use w83782d_map::is_present;
 use w83782d_map::stored_bits;
+use w83782d_registers::is_command;
+use w83782d_registers::latches::Latches;
+use w83782d_registers::latches::read_latches;
+use w83782d_registers::latches::write_latches;
+use w83782d_registers::reach;
+use w83782d_registers::restore;
+use w83782d_registers::shown;
 
 // What a write answers, with the latches after it.
 pub struct Outcome {

@@ -11,7 +11,7 @@ use bits::put;
 use sensor::Mark;
 use sensor::Output;
 use sensor::Remote;
-use w83782d_bus::latches::Latches;
+use w83782d_registers::latches::Latches;
 
 // The bytes of an image.
 pub const IMAGE: usize = 128;

@@ -10,7 +10,7 @@ use Rattle.answers.specs.Answers as answers
 use Rattle.bits.specs.Bits.{choose, isOn}
 use Rattle.w83782d_map.specs.Map.{fits}
 use Rattle.w83782d_map.specs.Cells.{configuration, interruptStatus1, interruptStatus2, smiMask1, smiMask2}
-use Rattle.w83782d_bus.specs.Registers.{withChassis}
+use Rattle.w83782d_registers.specs.Registers.{withChassis}
 use Rattle.w83782d_readings.specs.declared.outputs.Outputs.{Outputs}
 use Rattle.w83782d_readings.specs.declared.outputs.Outputs.the-variants.{Shown, WrongLength}
 

@@ -6,13 +6,13 @@ ghost use Rattle.w83782d_readings.specs.Outputs.{smiOf, standingAlarms, 
 use bits::Bit;
 use bits::cell;
 use bits::is_on;
-use w83782d_bus::registers::with_chassis;
 use w83782d_map::CELLS;
 use w83782d_map::CONFIGURATION;
 use w83782d_map::INTERRUPT_STATUS_1;
 use w83782d_map::INTERRUPT_STATUS_2;
 use w83782d_map::SMI_MASK_1;
 use w83782d_map::SMI_MASK_2;
+use w83782d_registers::with_chassis;
 
 // What the outputs of a slice of registers answer.
 pub enum Outputs {

@@ -18,8 +18,8 @@ use Rattle.sensor.specs.declared.Status.{Status}
 use Rattle.sensor.specs.declared.Output.{Output}
 use Rattle.sensor.specs.declared.Remote.{Remote}
 use Rattle.w83782d_record.specs.declared.samples.Sample.{Sample}
-use Rattle.w83782d_bus.specs.declared.latches.Latches.{Latches}
-use Rattle.w83782d_bus.specs.Effects.{remoteOf}
+use Rattle.w83782d_registers.specs.declared.latches.Latches.{Latches}
+use Rattle.w83782d_registers.specs.Effects.{remoteOf}
 use Rattle.w83782d_map.specs.Map.{cells}
 use Rattle.w83782d_map.specs.Cells.{interruptStatus1, interruptStatus2, realTimeStatus2}
 use Rattle.w83782d_bus.specs.Bus.{state, written, sized}
@@ -28,11 +28,11 @@ use Rattle.w83782d_sample.specs.StoredParts.{storedIn}
 use Rattle.w83782d_sample.proofs.store.Rules.{stored-in}
 use Rattle.w83782d_sample.specs.declared.Step.{Step}
 use Rattle.w83782d_sample.specs.declared.Evaluation.{Evaluation}
-use Rattle.w83782d_sample.specs.declared.conditions.Comparison.{Comparison}
-use Rattle.w83782d_sample.specs.declared.conditions.Compared.{Compared}
-use Rattle.w83782d_sample.specs.Conditions.{isOutside, isAbove, isSlow, outputMode, comparisonOf, comparedOf}
-use Rattle.w83782d_sample.specs.ConditionParts.{comparedIn}
-use Rattle.w83782d_sample.proofs.conditions.Rules.{not-one}
+use Rattle.w83782d_conditions.specs.declared.Comparison.{Comparison}
+use Rattle.w83782d_conditions.specs.declared.Compared.{Compared}
+use Rattle.w83782d_conditions.specs.Conditions.{isOutside, isAbove, isSlow, outputMode, comparisonOf, comparedOf}
+use Rattle.w83782d_conditions.specs.ConditionParts.{comparedIn}
+use Rattle.w83782d_conditions.proofs.Rules.{not-one}
 use Rattle.w83782d_sample.specs.Sample.{realTimeStatus1, statusAt, outputAt, remoteAfter, statusRegisters, steppedLatches, sampleOf}
 use Rattle.w83782d_sample.specs.SampleParts.{remoteStep, Evaluates}
 

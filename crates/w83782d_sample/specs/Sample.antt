@@ -12,13 +12,13 @@ use Rattle.sensor.specs.declared.Status.{Status}
 use Rattle.sensor.specs.declared.Output.{Output}
 use Rattle.sensor.specs.declared.Remote.{Remote}
 use Rattle.w83782d_record.specs.declared.samples.Sample.{Sample}
-use Rattle.w83782d_bus.specs.declared.latches.Latches.{Latches}
-use Rattle.w83782d_bus.specs.Effects.{latches, remoteOf}
+use Rattle.w83782d_registers.specs.declared.latches.Latches.{Latches}
+use Rattle.w83782d_registers.specs.Effects.{latches, remoteOf}
 use Rattle.w83782d_map.specs.Map.{atBank}
 use Rattle.w83782d_map.specs.Cells.{interruptStatus1, interruptStatus2, realTimeStatus2}
 use Rattle.w83782d_bus.specs.Bus.{State, state, Written, written}
 use Rattle.w83782d_sample.specs.Stored.{Store, _≔_, puts, storedReadings, sampleAnswer}
-use Rattle.w83782d_sample.specs.Conditions.{isOutside, isAbove, isBelow, isSlow, statusMode, outputMode}
+use Rattle.w83782d_conditions.specs.Conditions.{isOutside, isAbove, isBelow, isSlow, statusMode, outputMode}
 
 -- ---- one step of each sensor
 abbrev pub markOf : Latches → ℕ → Mark

@@ -5,8 +5,8 @@ use Prim.Native.Nat.{ℕ}
 use Rattle.sensor.specs.Sensor.{remote, statusOf, outputOf}
 use Rattle.sensor.specs.declared.Mode.{Mode}
 use Rattle.sensor.specs.declared.Remote.{Remote}
-use Rattle.w83782d_bus.specs.declared.latches.Latches.{Latches}
-use Rattle.w83782d_sample.specs.declared.conditions.Comparison.{Comparison}
+use Rattle.w83782d_registers.specs.declared.latches.Latches.{Latches}
+use Rattle.w83782d_conditions.specs.declared.Comparison.{Comparison}
 use Rattle.w83782d_sample.specs.declared.Step.{Step}
 use Rattle.w83782d_sample.specs.declared.Evaluation.{Evaluation}
 use Rattle.w83782d_sample.specs.Sample.{realTimeByte, latchedByte, firstByte, secondByte, steppedLatches}

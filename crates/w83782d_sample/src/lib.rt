@@ -10,11 +10,8 @@ ghost use Rattle.w83782d_bus.specs.Bus.{state, sized, outcomeIn};
 ghost use Rattle.w83782d_sample.specs.Sample.{statusRegisters, steppedLatches, sampleOf};
 ghost use Rattle.w83782d_sample.specs.SampleParts.{remoteStep, Evaluates};
 
-pub mod conditions;
 pub mod store;
 
-use crate::conditions::Comparison;
-use crate::conditions::compare;
 use crate::store::answer_to;
 use crate::store::store;
 use answers::ACCEPTED;
@@ -25,13 +22,15 @@ use sensor::Remote;
 use sensor::output_step;
 use sensor::status_step;
 use w83782d_bus::Outcome;
-use w83782d_bus::latches::Latches;
+use w83782d_conditions::Comparison;
+use w83782d_conditions::compare;
 use w83782d_map::CELLS;
 use w83782d_map::INTERRUPT_STATUS_1;
 use w83782d_map::INTERRUPT_STATUS_2;
 use w83782d_map::REAL_TIME_STATUS_1;
 use w83782d_map::REAL_TIME_STATUS_2;
 use w83782d_record::samples::Sample;
+use w83782d_registers::latches::Latches;
 
 // ---- Steps
 

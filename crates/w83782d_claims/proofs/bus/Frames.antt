@@ -20,14 +20,14 @@ use Rattle.bits.proofs.Every.{every-at, every-at2, same-tests}
 use Rattle.bits.proofs.Tables.{tabulate-length, tabulate-at}
 use Rattle.sensor.specs.Sensor.{armed, releasedOf}
 use Rattle.sensor.specs.declared.Remote.{Remote}
-use Rattle.w83782d_bus.specs.declared.latches.Latches.{Latches}
+use Rattle.w83782d_registers.specs.declared.latches.Latches.{Latches}
 use Rattle.w83782d_map.specs.Map.{cells, presentAt, writableAt, powerOnAt, keptAt, rows}
 use Rattle.w83782d_map.specs.Cells.{bankCell, bankSelect, chassisClear, chipId, configuration, deviceId, interruptStatus1, interruptStatus2, realTimeStatus2, vendorId, vidFanDivisor}
 use Rattle.w83782d_map.specs.Access.{writeAnswer, storedBits}
-use Rattle.w83782d_bus.specs.Registers.{cellOf, reachOf, isCommand, isInterrupt, resetRegisters, withChassis, shownOf}
-use Rattle.w83782d_bus.specs.Effects.{remoteOf, writtenLatches, readLatches, withReleased, releases, openedLatches}
+use Rattle.w83782d_registers.specs.Registers.{cellOf, reachOf, isCommand, isInterrupt, resetRegisters, withChassis, shownOf}
+use Rattle.w83782d_registers.specs.Effects.{remoteOf, writtenLatches, readLatches, withReleased, releases, openedLatches}
 use Rattle.w83782d_bus.specs.Bus.{State, state, writtenRegisters, writeOf, readRegisters, readOf, Read, read}
-use Rattle.w83782d_bus.proofs.registers.Cases.{both}
+use Rattle.w83782d_registers.proofs.Cases.{both}
 use Rattle.w83782d_map.proofs.Cells.{answered-cell, present-cell}
 use Rattle.w83782d_claims.proofs.bus.Reached.{write-answer, read-answer}
 use Rattle.w83782d_claims.specs.BusClaims.{Whole, isOff, cellIn, remoteIn, shownIn, SameMarks, SameLatches, Stores, Shows, Stored, Cleared, Reset, ReadLeaves, ShownBytes, hasRule, OpenedClaims}
@@ -163,7 +163,7 @@ unfolding resetRegisters
 reset-count rs = tabulate-length cells 0 (λ c. choose (keptAt c) (getD rs c 0) (powerOnAt c))
 
 reset-state : (s : State) (v : ℕ) → isOn v 7 ≡ true
-    → writeOf s 0x40 v ≡ record { state = state (resetRegisters (s .registers)) (Rattle.w83782d_bus.specs.Effects.resetLatches (s .latches)); answer = 0 }
+    → writeOf s 0x40 v ≡ record { state = state (resetRegisters (s .registers)) (Rattle.w83782d_registers.specs.Effects.resetLatches (s .latches)); answer = 0 }
 unfolding writeOf writtenRegisters writtenLatches
 reset-state s v e = rw (cell-40, answer-40) (simp e)
 

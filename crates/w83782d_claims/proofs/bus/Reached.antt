@@ -20,10 +20,10 @@ use Rattle.bits.proofs.Every.{every-at, every-at2, beq-same}
 use Rattle.w83782d_map.specs.Map.{cells, presentAt, writableAt, rows}
 use Rattle.w83782d_map.specs.Cells.{bankSelect}
 use Rattle.w83782d_map.specs.Access.{writeAnswer, storedBits}
-use Rattle.w83782d_bus.specs.Registers.{cellOf, bankOf, reachOf}
+use Rattle.w83782d_registers.specs.Registers.{cellOf, bankOf, reachOf}
 use Rattle.w83782d_bus.specs.Bus.{State, writtenRegisters, writeOf, Written, readOf, Read}
 use Rattle.w83782d_map.proofs.Cells.{present, present-rows, present-out}
-use Rattle.w83782d_bus.proofs.registers.Cases.{cell-alias, cell-any}
+use Rattle.w83782d_registers.proofs.Cases.{cell-alias, cell-any}
 use Rattle.w83782d_claims.specs.BusClaims.{answers1, AccessAnswers, RefusedAccess, Alias, Unbanked, BankSelected, AbsentBank, isAbsent}
 
 -- ---- answers

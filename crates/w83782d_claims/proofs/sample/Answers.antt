@@ -10,7 +10,7 @@ use Rattle.numbers.specs.TwosComplement.{half9, holds}
 use Rattle.analog.specs.Temperature.{outside}
 use Rattle.analog.proofs.Halves.{held}
 use Rattle.w83782d_record.specs.declared.samples.Sample.{Sample}
-use Rattle.w83782d_bus.proofs.registers.Cases.{both}
+use Rattle.w83782d_registers.proofs.Cases.{both}
 use Rattle.w83782d_bus.specs.Bus.{State}
 use Rattle.w83782d_sample.specs.Stored.{sampledHalves, sampleAnswer}
 use Rattle.w83782d_sample.specs.Sample.{sampleOf}

@@ -25,16 +25,16 @@ use Rattle.sensor.specs.declared.Status.{Status}
 use Rattle.sensor.specs.declared.Output.{Output}
 use Rattle.sensor.specs.declared.Remote.{Remote}
 use Rattle.w83782d_record.specs.declared.samples.Sample.{Sample}
-use Rattle.w83782d_bus.specs.declared.latches.Latches.{Latches}
+use Rattle.w83782d_registers.specs.declared.latches.Latches.{Latches}
 use Rattle.w83782d_map.specs.Map.{cells}
 use Rattle.w83782d_map.specs.Cells.{bankCell, fanCount, fanLimit, highLimit, interruptStatus1, interruptStatus2, lowLimit, ovtProperty, realTimeStatus2, sensor1Hysteresis, sensor1Over, sensor1Value, voltage}
-use Rattle.w83782d_bus.specs.Registers.{isInterrupt}
-use Rattle.w83782d_bus.proofs.registers.Cases.{both}
-use Rattle.w83782d_bus.specs.Effects.{latches, remoteOf}
+use Rattle.w83782d_registers.specs.Registers.{isInterrupt}
+use Rattle.w83782d_registers.proofs.Cases.{both}
+use Rattle.w83782d_registers.specs.Effects.{latches, remoteOf}
 use Rattle.w83782d_bus.specs.Bus.{State}
 use Rattle.w83782d_sample.specs.Stored.{sampledCode, sampledHalves, storedCount, readings, storedReadings}
-use Rattle.w83782d_sample.specs.Conditions.{isOutside, isAbove, isBelow, isSlow, statusMode, outputMode}
-use Rattle.w83782d_sample.proofs.conditions.Rules.{not-one}
+use Rattle.w83782d_conditions.specs.Conditions.{isOutside, isAbove, isBelow, isSlow, statusMode, outputMode}
+use Rattle.w83782d_conditions.proofs.Rules.{not-one}
 use Rattle.w83782d_sample.specs.Sample.{Source, firstByte, secondByte, realTimeStatus1, statusAt, outputAt, remoteAfter, condition, latchedBy, statusStores, latchedByte, steppedLatches, sampleOf}
 use Rattle.w83782d_sample.specs.Sample.Source.{rail, sensor, fan, chassis}
 use Rattle.w83782d_claims.specs.BusClaims.{cellIn}

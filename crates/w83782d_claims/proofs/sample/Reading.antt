@@ -13,12 +13,12 @@ use lib.Dec.{eqb, lit<, lit≤}
 use lib.ListN.{set}
 use Rattle.bits.specs.Bits.{bit, isOn, choose}
 use Rattle.bits.proofs.Every.{same-tests}
-use Rattle.w83782d_bus.specs.declared.latches.Latches.{Latches}
+use Rattle.w83782d_registers.specs.declared.latches.Latches.{Latches}
 use Rattle.w83782d_map.specs.Map.{cells, presentAt}
 use Rattle.w83782d_map.specs.Cells.{bankSelect, configuration, interruptStatus1, interruptStatus2}
 use Rattle.w83782d_map.proofs.Cells.{present-cell}
-use Rattle.w83782d_bus.specs.Registers.{cellOf, reachOf, shownOf}
-use Rattle.w83782d_bus.specs.Effects.{readLatches}
+use Rattle.w83782d_registers.specs.Registers.{cellOf, reachOf, shownOf}
+use Rattle.w83782d_registers.specs.Effects.{readLatches}
 use Rattle.w83782d_bus.specs.Bus.{State, state, readRegisters, Read, read, readOf}
 use Rattle.w83782d_sample.specs.Stored.{_≔_}
 use Rattle.w83782d_claims.specs.BusClaims.{Whole, shownIn, hasRule}

@@ -18,8 +18,8 @@ use Rattle.bits.proofs.Every.{every-at, same-below2, same-tests, both, both-lef
 use Rattle.w83782d_map.specs.Map.{presentAt, writableAt, rows}
 use Rattle.w83782d_map.specs.Cells.{configuration, interruptStatus1, interruptStatus2, smiMask1, smiMask2}
 use Rattle.w83782d_map.specs.Access.{writeAnswer, storedBits}
-use Rattle.w83782d_bus.specs.Registers.{cellOf, shownOf}
-use Rattle.w83782d_bus.specs.Effects.{writtenLatches}
+use Rattle.w83782d_registers.specs.Registers.{cellOf, shownOf}
+use Rattle.w83782d_registers.specs.Effects.{writtenLatches}
 use Rattle.w83782d_bus.specs.Bus.{State, state, Written, written, writtenRegisters, writeOf}
 use Rattle.w83782d_readings.specs.Outputs.{status1, status2, unmasked, smiOf}
 use Rattle.w83782d_claims.specs.BusClaims.{Whole, cellIn}

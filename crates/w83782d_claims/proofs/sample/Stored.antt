@@ -22,15 +22,15 @@ use Rattle.fan.specs.Divisors.{divisorAt}
 use Rattle.fan.specs.declared.Divisor.{Divisor}
 use Rattle.sensor.specs.declared.Status.{Status}
 use Rattle.w83782d_record.specs.declared.samples.Sample.{Sample}
-use Rattle.w83782d_bus.specs.declared.latches.Latches.{Latches}
+use Rattle.w83782d_registers.specs.declared.latches.Latches.{Latches}
 use Rattle.w83782d_map.specs.Map.{cells, bankAt, indexAt}
 use Rattle.w83782d_map.specs.Cells.{bankCell, configuration, fanCount, fanLimit, highLimit, interruptStatus1, interruptStatus2, lowLimit, ovtProperty, sensor1Hysteresis, sensor1Over, sensor1Value, smiMask1, smiMask2, voltage}
-use Rattle.w83782d_bus.specs.Registers.{isInterrupt}
-use Rattle.w83782d_bus.proofs.registers.Cases.{both}
+use Rattle.w83782d_registers.specs.Registers.{isInterrupt}
+use Rattle.w83782d_registers.proofs.Cases.{both}
 use Rattle.w83782d_bus.specs.Bus.{State}
 use Rattle.w83782d_sample.specs.Stored.{Store, puts, none, divisorPlaces, divisorOf, storedCount, readings, storedReadings, sampleAnswer}
-use Rattle.w83782d_sample.specs.Conditions.{isOutside, isAbove, isBelow, isSlow, statusMode, outputMode}
-use Rattle.w83782d_sample.proofs.conditions.Rules.{not-one}
+use Rattle.w83782d_conditions.specs.Conditions.{isOutside, isAbove, isBelow, isSlow, statusMode, outputMode}
+use Rattle.w83782d_conditions.proofs.Rules.{not-one}
 use Rattle.w83782d_sample.specs.Sample.{statusAt, outputAt, remoteAfter, latchedBy, statusStores, statusRegisters, steppedLatches, sampleOf}
 use Rattle.w83782d_sample.specs.Sample.Source.{sensor}
 use Rattle.w83782d_readings.specs.Outputs.{smiOf}

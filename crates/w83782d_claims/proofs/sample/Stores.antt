@@ -14,7 +14,7 @@ use Rattle.bits.specs.Map.{among}
 use Rattle.bits.proofs.BitLaws.{choose-ind}
 use Rattle.bits.proofs.Every.{same-tests}
 use Rattle.w83782d_record.specs.declared.samples.Sample.{Sample}
-use Rattle.w83782d_bus.specs.declared.latches.Latches.{Latches}
+use Rattle.w83782d_registers.specs.declared.latches.Latches.{Latches}
 use Rattle.w83782d_map.specs.Map.{cells, bankAt, indexAt}
 use Rattle.w83782d_bus.specs.Bus.{State, Written}
 use Rattle.w83782d_sample.specs.Stored.{Store, puts, readings, storedReadings, sampleAnswer}

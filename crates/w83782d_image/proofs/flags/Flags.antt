@@ -15,7 +15,7 @@ use Rattle.bits.specs.Map.{tabulate}
 use Rattle.sensor.specs.Sensor.{remote, output, armed}
 use Rattle.sensor.specs.declared.Mark.the-variants.{Armed, Hot}
 use Rattle.sensor.specs.declared.Remote.{Remote}
-use Rattle.w83782d_bus.specs.declared.latches.Latches.{Latches}
+use Rattle.w83782d_registers.specs.declared.latches.Latches.{Latches}
 use Rattle.w83782d_image.specs.Image.{imageLength, isSet, markFrom, flagByte, markByte, remoteBytes, flagBytes, latchesIn, putFrom}
 use Rattle.w83782d_image.proofs.Images.{put-whole}
 

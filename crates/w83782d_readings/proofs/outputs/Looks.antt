@@ -13,7 +13,7 @@ use lib.ListN.{length, getD}
 use Rattle.bits.specs.Bits.{isOn}
 use Rattle.w83782d_map.specs.Map.{cells}
 use Rattle.w83782d_map.specs.Cells.{configuration, interruptStatus1, interruptStatus2, smiMask1, smiMask2}
-use Rattle.w83782d_bus.specs.Registers.{withChassis}
+use Rattle.w83782d_registers.specs.Registers.{withChassis}
 use Rattle.w83782d_readings.specs.Outputs.{smiOf, standingAlarms, outputsOf}
 use Rattle.w83782d_readings.specs.declared.outputs.Outputs.the-variants.{Shown, WrongLength}
 

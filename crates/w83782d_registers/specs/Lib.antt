@@ -1,0 +1,4 @@
+pub mod Registers
+pub mod Parts
+pub mod Effects
+pub mod Ovt

@@ -1,3 +1,4 @@
+pub mod Named
 pub mod Reached
 pub mod Frames
 pub mod Proved

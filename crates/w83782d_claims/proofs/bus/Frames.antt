@@ -24,7 +24,8 @@ use Rattle.w83782d_registers.specs.declared.latches.Latches.{Latches}
 use Rattle.w83782d_map.specs.Map.{cells, presentAt, writableAt, powerOnAt, keptAt, rows}
 use Rattle.w83782d_map.specs.Cells.{bankCell, bankSelect, chassisClear, chipId, configuration, deviceId, interruptStatus1, interruptStatus2, realTimeStatus2, vendorId, vidFanDivisor}
 use Rattle.w83782d_map.specs.Access.{writeAnswer, storedBits}
-use Rattle.w83782d_registers.specs.Registers.{cellOf, reachOf, isCommand, isInterrupt, resetRegisters, withChassis, shownOf}
+use Rattle.w83782d_claims.proofs.bus.Named.{register-40, register-46}
+use Rattle.w83782d_registers.specs.Registers.{reachOf, isCommand, isInterrupt, resetRegisters, withChassis, shownOf}
 use Rattle.w83782d_registers.specs.Effects.{remoteOf, writtenLatches, readLatches, withReleased, releases, openedLatches}
 use Rattle.w83782d_bus.specs.Bus.{State, state, writtenRegisters, writeOf, readRegisters, readOf, Read, read}
 use Rattle.w83782d_registers.proofs.Cases.{both}
@@ -110,22 +111,10 @@ merge-none : (o v : ℕ) → o < 256 → mergeOf o 0 v ≡ o
 unfolding mergeOf
 merge-none o v h = rw (and-zero-r v, or-zero-r) (and-mask o 8 ∙ mod-eq-of-lt h)
 
-cell-46 : (b : ℕ) → cellOf b 0x46 ≡ chassisClear
-unfolding cellOf
-cell-46 b = refl
-
-answer-46 : writeAnswer chassisClear ≡ 0
-unfolding writeAnswer presentAt writableAt rows
-answer-46 = refl
-
-stored-46 : storedBits chassisClear ≡ 0
-unfolding writableAt rows
-stored-46 = refl
-
 changes-46 : (s : State) (v : ℕ) → Whole s → writtenRegisters (s .registers) chassisClear v ≡ s .registers
 unfolding writtenRegisters changes
 changes-46 s v w =
-    rw (stored-46, merge-none (getD (s .registers) chassisClear 0) v (w .bytes chassisClear)) (set-getD (s .registers) chassisClear 0)
+    rw (register-46 .stored, merge-none (getD (s .registers) chassisClear 0) v (w .bytes chassisClear)) (set-getD (s .registers) chassisClear 0)
 
 off-on : (n j : ℕ) → isOn n j ≡ true → isOff n j ≡ false
 off-on n j e = ne-eqb (bit n j) 0 (λ z. absurd (omega (arith, bit-on n j e)))
@@ -143,17 +132,9 @@ latch-46 l v = go (isOn v 7) refl
 
 pub cleared : (s : State) (v : ℕ) → Whole s → Cleared s v
 unfolding writeOf
-cleared s v w = rw (cell-46, answer-46, changes-46 s v w, latch-46)
+cleared s v w = rw (register-46 .cell, register-46 .answer, changes-46 s v w, latch-46)
 
 -- ---- reset
-cell-40 : (b : ℕ) → cellOf b 0x40 ≡ configuration
-unfolding cellOf
-cell-40 b = refl
-
-answer-40 : writeAnswer configuration ≡ 0
-unfolding writeAnswer presentAt writableAt rows
-answer-40 = refl
-
 reset-at : (rs : List ℕ) (c : ℕ) → c < cells → getD (resetRegisters rs) c 0 ≡ choose (keptAt c) (getD rs c 0) (powerOnAt c)
 unfolding resetRegisters
 reset-at rs c h = tabulate-at cells (λ c. choose (keptAt c) (getD rs c 0) (powerOnAt c)) c h
@@ -165,7 +146,7 @@ reset-count rs = tabulate-length cells 0 (λ c. choose (keptAt c) (getD rs c 0) 
 reset-state : (s : State) (v : ℕ) → isOn v 7 ≡ true
     → writeOf s 0x40 v ≡ record { state = state (resetRegisters (s .registers)) (Rattle.w83782d_registers.specs.Effects.resetLatches (s .latches)); answer = 0 }
 unfolding writeOf writtenRegisters writtenLatches
-reset-state s v e = rw (cell-40, answer-40) (simp e)
+reset-state s v e = rw (register-40 .cell, register-40 .answer) (simp e)
 
 pub reset : (s : State) (v : ℕ) → Reset s v
 reset s v e =

@@ -19,7 +19,8 @@ use Rattle.bits.proofs.BitLaws.{choose-ind}
 use Rattle.bits.proofs.Every.{every-at, every-at2, beq-same}
 use Rattle.w83782d_map.specs.Map.{cells, presentAt, writableAt, rows}
 use Rattle.w83782d_map.specs.Cells.{bankSelect}
-use Rattle.w83782d_map.specs.Access.{writeAnswer, storedBits}
+use Rattle.w83782d_map.specs.Access.{writeAnswer}
+use Rattle.w83782d_claims.proofs.bus.Named.{register-4E}
 use Rattle.w83782d_registers.specs.Registers.{cellOf, bankOf, reachOf}
 use Rattle.w83782d_bus.specs.Bus.{State, writtenRegisters, writeOf, Written, readOf, Read}
 use Rattle.w83782d_map.proofs.Cells.{present, present-rows, present-out}
@@ -138,18 +139,6 @@ pub unbanked : (i : ℕ) → Unbanked i
 unbanked i h rs rs′ = cell-free (bankOf rs) (bankOf rs′) i h
 
 -- ---- the bank
-cell-4E : (b : ℕ) → cellOf b 0x4E ≡ bankSelect
-unfolding cellOf
-cell-4E b = refl
-
-answer-4E : writeAnswer bankSelect ≡ 0
-unfolding writeAnswer presentAt writableAt rows
-answer-4E = refl
-
-stored-4E : storedBits bankSelect ≡ 0b1000_0111
-unfolding writableAt rows
-stored-4E = refl
-
 -- bits 2-0 of a merge by 87h are the byte's
 merge-low : (o v : ℕ) → bitAnd (mergeOf o 0b1000_0111 v) 7 ≡ bitAnd v 7
 unfolding mergeOf
@@ -162,14 +151,14 @@ merge-low o v =
 
 written-4E : (rs : List ℕ) (v : ℕ) → length rs ≡ cells → bankOf (writtenRegisters rs bankSelect v) ≡ bitAnd v 7
 unfolding writtenRegisters changes
-written-4E rs v h = rw (stored-4E, getD-set-same rs bankSelect (mergeOf (getD rs bankSelect 0) 0b1000_0111 v) 0 (omega arith)) (merge-low (getD rs bankSelect 0) v)
+written-4E rs v h = rw (register-4E .stored, getD-set-same rs bankSelect (mergeOf (getD rs bankSelect 0) 0b1000_0111 v) 0 (omega arith)) (merge-low (getD rs bankSelect 0) v)
 
 pub selected : (s : State) (v : ℕ) → length (s .registers) ≡ cells → BankSelected s v
 unfolding writeOf
 selected s v w =
     record {
-      accepted = write-answer s 0x4E v ∙ ap writeAnswer (cell-4E (bankOf (s .registers))) ∙ answer-4E;
-      selects = rw (cell-4E, answer-4E) (written-4E (s .registers) v w);
+      accepted = write-answer s 0x4E v ∙ ap writeAnswer (register-4E .cell (bankOf (s .registers))) ∙ register-4E .answer;
+      selects = rw (register-4E .cell, register-4E .answer) (written-4E (s .registers) v w);
     }
 
 -- in an absent bank there is no cell from 50h to 5Fh

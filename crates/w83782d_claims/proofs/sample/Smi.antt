@@ -15,10 +15,9 @@ use lib.Seq.{getD-set-same, getD-set-other}
 use Rattle.bits.specs.Bits.{bit, isOn, choose, mergeOf, changes}
 use Rattle.bits.proofs.BitLaws.{bit-lt, bit-none, bit-on, bit-off, and-bit, or-bit}
 use Rattle.bits.proofs.Every.{every-at, same-below2, same-tests, both, both-left, both-right}
-use Rattle.w83782d_map.specs.Map.{presentAt, writableAt, rows}
 use Rattle.w83782d_map.specs.Cells.{configuration, interruptStatus1, interruptStatus2, smiMask1, smiMask2}
-use Rattle.w83782d_map.specs.Access.{writeAnswer, storedBits}
-use Rattle.w83782d_registers.specs.Registers.{cellOf, shownOf}
+use Rattle.w83782d_registers.specs.Registers.{shownOf}
+use Rattle.w83782d_claims.proofs.bus.Named.{register-40}
 use Rattle.w83782d_registers.specs.Effects.{writtenLatches}
 use Rattle.w83782d_bus.specs.Bus.{State, state, Written, written, writtenRegisters, writeOf}
 use Rattle.w83782d_readings.specs.Outputs.{status1, status2, unmasked, smiOf}
@@ -168,18 +167,6 @@ merged-bit : (o j : ℕ) → o < 256 → j < 8 → bit (mergeOf o 0b0100_1011 (c
 unfolding bit mergeOf
 merged-bit = same-below2 256 8 (λ o j. bit (mergeOf o 0b0100_1011 (cleared o)) j) (λ o j. choose (eqb j 0) 0 (bit o j)) tt
 
-cell-40 : (b : ℕ) → cellOf b 0x40 ≡ configuration
-unfolding cellOf
-cell-40 b = refl
-
-answer-40 : writeAnswer configuration ≡ 0
-unfolding writeAnswer presentAt writableAt rows
-answer-40 = refl
-
-stored-40 : storedBits configuration ≡ 0b0100_1011
-unfolding writableAt rows
-stored-40 = refl
-
 module _ (s : State) (w : Whole s) where
   abbrev old : ℕ
   old = cellIn s configuration
@@ -189,7 +176,7 @@ module _ (s : State) (w : Whole s) where
 
   written-40 : standbyOf s ≡ written left 0
   unfolding writeOf writtenRegisters writtenLatches changes shownOf
-  written-40 = rw (cell-40, answer-40, no-reset old (w .bytes configuration), stored-40)
+  written-40 = rw (register-40 .cell, register-40 .answer, no-reset old (w .bytes configuration), register-40 .stored)
 
   left-bits : (c j : ℕ) → j < 8 → bit (cellIn left c) j ≡ choose (eqb c configuration && eqb j 0) 0 (bit (cellIn s c) j)
   left-bits c j hj = go (ℕ-discrete c configuration)

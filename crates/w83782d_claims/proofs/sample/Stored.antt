@@ -29,7 +29,7 @@ use Rattle.w83782d_registers.specs.Registers.{isInterrupt}
 use Rattle.w83782d_registers.proofs.Cases.{both}
 use Rattle.w83782d_bus.specs.Bus.{State}
 use Rattle.w83782d_sample.specs.Stored.{Store, puts, none, divisorPlaces, divisorOf, storedCount, readings, storedReadings, sampleAnswer}
-use Rattle.w83782d_conditions.specs.Conditions.{isOutside, isAbove, isBelow, isSlow, statusMode, outputMode}
+use Rattle.w83782d_conditions.specs.Conditions.{halfLevelAt, isOutside, isAbove, isBelow, isSlow, statusMode, outputMode}
 use Rattle.w83782d_conditions.proofs.Rules.{not-one}
 use Rattle.w83782d_sample.specs.Sample.{statusAt, outputAt, remoteAfter, latchedBy, statusStores, statusRegisters, steppedLatches, sampleOf}
 use Rattle.w83782d_sample.specs.Sample.Source.{sensor}
@@ -169,27 +169,22 @@ module _ (rs ts : List ℕ) (e : Same rs ts) where
     in-bank : (f : ℕ → ℕ) → plain (f (bankCell 2)) ≡ true → plain (f (bankCell 3)) ≡ true → getD rs (f (bankCell n)) 0 ≡ getD ts (f (bankCell n)) 0
     in-bank f p q = e .cell (f (bankCell n)) (both (λ n. plain (f (bankCell n)) ≡ true) p q n h k)
 
+    level : (k : ℕ) → plain (bankCell 2 + k) ≡ true → plain (bankCell 3 + k) ≡ true
+        → plain (bankCell 2 + k + 1) ≡ true → plain (bankCell 3 + k + 1) ≡ true
+        → halfLevelAt rs (bankCell n + k) ≡ halfLevelAt ts (bankCell n + k)
+    level k p q p′ q′ = rw (in-bank (λ c. c + k) p q, in-bank (λ c. c + k + 1) p′ q′)
+
+    value : halfLevelAt rs (bankCell n) ≡ halfLevelAt ts (bankCell n)
+    unfolding ruleless
+    value = rw (in-bank (λ c. c) refl refl, in-bank (λ c. c + 1) refl refl)
+
     above-n : isAbove rs n ≡ isAbove ts n
     unfolding isAbove ruleless
-    above-n =
-        simp (
-          not-one n h,
-          in-bank (λ c. c) refl refl,
-          in-bank (λ c. c + 1) refl refl,
-          in-bank (λ c. c + 5) refl refl,
-          in-bank (λ c. c + 5 + 1) refl refl,
-        )
+    above-n = simp (not-one n h, value, level 5 refl refl refl refl)
 
     below-n : isBelow rs n ≡ isBelow ts n
     unfolding isBelow ruleless
-    below-n =
-        simp (
-          not-one n h,
-          in-bank (λ c. c) refl refl,
-          in-bank (λ c. c + 1) refl refl,
-          in-bank (λ c. c + 3) refl refl,
-          in-bank (λ c. c + 3 + 1) refl refl,
-        )
+    below-n = simp (not-one n h, value, level 3 refl refl refl refl)
 
     pub interrupt-same : isInterrupt rs n ≡ isInterrupt ts n
     unfolding isInterrupt ruleless bit

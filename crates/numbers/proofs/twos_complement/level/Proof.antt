@@ -1,6 +1,7 @@
 -- The code is the definition.
 -- Assumes nothing.
 use Prim.Native.Nat.{ℕ, _*_, _<_}
+use native.Mathlib.Nat.{mod-lt, lt-of-lt-of-le}
 use native.Mathlib.Omega.{arith}
 use mathlib.Core.Path.{ap, subst}
 use Rattle.numbers.specs.TwosComplement.{levelOf}
@@ -27,8 +28,7 @@ rem-result c = search needs
 cast-result : tie.Need-cast-result
 cast-result c =
     let half = c .half-of in
-    let small = level-lt (half .result) (c .before .args .code) (half .ensures .1) in
-    record { fits = omega (arith, small, half .ensures .2) }
+    record { fits = lt-of-lt-of-le (mod-lt _ (omega (arith, half .ensures .1))) (omega (arith, half .ensures .2)) }
 
 returns : tie.Need-returns
 returns c =

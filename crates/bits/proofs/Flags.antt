@@ -20,10 +20,10 @@ each-at : (f : Bool → Bool) → T (each f) → (b : Bool) → T (f b)
 each-at f t true = both-left (f true) (f false) t
 each-at f t false = both-right (f true) (f false) t
 
-abbrev each4 : (Bool → Bool → Bool → Bool → Bool) → Bool
+abbrev pub each4 : (Bool → Bool → Bool → Bool → Bool) → Bool
 each4 f = each (λ a. each (λ b. each (λ c. each (f a b c))))
 
-each4-at : (f : Bool → Bool → Bool → Bool → Bool) → T (each4 f) → (a b c d : Bool) → T (f a b c d)
+pub each4-at : (f : Bool → Bool → Bool → Bool → Bool) → T (each4 f) → (a b c d : Bool) → T (f a b c d)
 each4-at f t a b c d =
     each-at (f a b c) (each-at (λ c. each (f a b c)) (each-at (λ b. each (λ c. each (f a b c))) (each-at (λ a. each (λ b. each (λ c. each (f a b c)))) t a) b) c) d
 

@@ -1,4 +1,5 @@
 pub mod Bits
+pub mod Bytes
 pub mod Map
 pub mod Claims
 pub mod Fields

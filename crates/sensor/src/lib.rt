@@ -63,8 +63,8 @@ impl Remote {
     }
 }
 
-// The mark of comparator mode: hot where above.
-fn mark_if(hot: bool) -> Mark
+// The mark that is hot or armed; in comparator mode hot is above.
+pub fn mark_if(hot: bool) -> Mark
     ensures { λ r. ⌜ r ≡ markIf hot ⌝ }
 {
     if hot {

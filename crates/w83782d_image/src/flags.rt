@@ -1,121 +1,115 @@
 // The flags of an image: the chassis latch, sensor 1's mark, then status mark, OVT mark and asserted of sensors 2 and 3, and the
-// eight spare bytes behind them. A slice that is not an image of 128 bytes stays; a look at one takes a byte beyond it as
-// 0.
+// eight spare bytes behind them. A slice that is not an image of 128 bytes stays, and holds the latches of power-on. The eight flags go as one number: taken one by one they were half of a call's instructions.
 ghost use mathlib.Core.Path.{_≡_};
-ghost use Prim.Native.Nat.{_≤_, _+_, _*_};
-ghost use lib.ListN.{getD, set};
+ghost use Prim.Native.Nat.{_≤_, _+_};
+ghost use lib.ListN.{length};
 ghost use lib.Seq.{sets};
-ghost use Rattle.w83782d_image.specs.Image.{imageLength, isSet, markFrom, flagByte, markByte, remoteAt, remoteBytes, latchesIn, flagBytes, spareZeros, putFrom};
+ghost use Rattle.bits.specs.Bytes.{joined, bytesOf, AreBytes, eachByte, normal};
+ghost use Rattle.w83782d_image.specs.Image.{imageLength, isHot, fourFrom, eightFrom, latchesIn, heldLatches, flagBytes, spareZeros, putFrom};
+use bits::Bit;
+use bits::bytes::four;
+use bits::bytes::is_flag;
+use bits::bytes::join;
+use bits::bytes::normalised;
 use bits::cell;
+use bits::flag;
 use bits::put;
 use sensor::Mark;
 use sensor::Output;
 use sensor::Remote;
+use sensor::mark_if;
 use w83782d_registers::latches::Latches;
 
 // The bytes of an image.
 pub const IMAGE: usize = 128;
 
-// Where the flags lie in the image, and the first spare byte.
-const CHASSIS: usize = 112;
-
-const SENSOR_1: usize = 113;
-
-const SENSOR_2: usize = 114;
-
-const SENSOR_3: usize = 117;
+// The first flag, which is the chassis latch, and the first spare byte.
+const FLAGS: usize = 112;
 
 const SPARE: usize = 120;
 
+// ---- Four bytes as a number, the first lowest
+
+fn four_at(image: &[u8], at: usize) -> u32
+    requires { ⌜ (length (now image) ≡ imageLength) × (at + 4 ≤ imageLength) ⌝ }
+    ensures { λ r. ⌜ (r ≡ joined (fourFrom (now (image .entry)) at)) × AreBytes (fourFrom (now (image .entry)) at) ⌝ }
+{
+    four(image[at], image[at + 1], image[at + 2], image[at + 3])
+}
+
+fn put_four(image: &mut [u8], at: usize, bytes: u32)
+    requires { ⌜ at + 4 ≤ imageLength ⌝ }
+    ensures { λ r. ⌜ now (image .exit) ≡ sets (now (image .entry)) at (bytesOf 4 bytes) ⌝ }
+{
+    let b = bytes / 256;
+    let c = b / 256;
+    let d = c / 256;
+    put(image, at, (bytes % 256) as u8);
+    put(image, at + 1, (b % 256) as u8);
+    put(image, at + 2, (c % 256) as u8);
+    put(image, at + 3, (d % 256) as u8);
+}
+
 // ---- Flags: 0 is closed, armed or released, any other byte opened, hot or asserted
 
-fn flag_at(image: &[u8], at: usize) -> bool
-    ensures { λ r. ⌜ r ≡ isSet (getD (now (image .entry)) at 0) ⌝ }
+// The eight flags, each as 0 or 1.
+fn flags_in(image: &[u8]) -> u64
+    requires { ⌜ length (now image) ≡ imageLength ⌝ }
+    ensures { λ r. ⌜ r ≡ joined (eachByte normal (eightFrom (now (image .entry)))) ⌝ }
 {
-    cell(image, at) != 0
+    let low = four_at(image, FLAGS) as u64;
+    let high = four_at(image, FLAGS + 4) as u64;
+    normalised(high * 0x1_0000_0000 + low)
 }
 
-fn mark_at(image: &[u8], at: usize) -> Mark
-    ensures { λ r. ⌜ r ≡ markFrom (getD (now (image .entry)) at 0) ⌝ }
+// An image given eight flags, as they are written. A slice of another length stays.
+fn put_flags(image: &mut [u8], flags: u64)
+    ensures { λ r. ⌜ now (image .exit) ≡ putFrom (now (image .entry)) 112 (bytesOf 8 flags) ⌝ }
 {
-    if cell(image, at) == 0 {
-        return Mark::Armed;
+    if image.len() != IMAGE {
+        return;
     }
-    Mark::Hot
+    put_four(image, FLAGS, (flags % 0x1_0000_0000) as u32);
+    put_four(image, FLAGS + 4, (flags / 0x1_0000_0000) as u32);
 }
 
-// A flag as it is written, 0 or 1.
-pub fn flag_byte(flag: bool) -> u8
-    ensures { λ r. ⌜ r ≡ flagByte flag ⌝ }
-{
-    if flag {
-        return 1;
-    }
-    0
-}
-
-fn mark_byte(mark: Mark) -> u8
-    ensures { λ r. ⌜ r ≡ markByte mark ⌝ }
+fn is_hot(mark: Mark) -> bool
+    ensures { λ r. ⌜ r ≡ isHot mark ⌝ }
 {
     match mark {
-        Mark::Armed => 0,
-        Mark::Hot => 1,
+        Mark::Armed => false,
+        Mark::Hot => true,
     }
 }
 
-fn put_flag(image: &mut [u8], at: usize, flag: bool)
-    ensures { λ r. ⌜ now (image .exit) ≡ set (now (image .entry)) at (flagByte flag) ⌝ }
-{
-    put(image, at, flag_byte(flag));
-}
+// ---- Latches
 
-fn put_mark(image: &mut [u8], at: usize, mark: Mark)
-    ensures { λ r. ⌜ now (image .exit) ≡ set (now (image .entry)) at (markByte mark) ⌝ }
-{
-    put(image, at, mark_byte(mark));
-}
-
-// The sensor whose three flags start at a place.
-fn remote_at(image: &[u8], at: usize) -> Remote
-    requires { ⌜ at + 3 ≤ imageLength ⌝ }
-    ensures { λ r. ⌜ r ≡ remoteAt (now (image .entry)) at ⌝ }
-{
-    let status = mark_at(image, at);
-    let ovt = mark_at(image, at + 1);
-    let asserted = flag_at(image, at + 2);
-    let output = Output {
-        mark: ovt,
-        asserted,
-    };
-    Remote { status, output }
-}
-
-// And those three stored.
-fn put_remote(image: &mut [u8], at: usize, remote: Remote)
-    requires { ⌜ at + 3 ≤ imageLength ⌝ }
-    ensures { λ r. ⌜ now (image .exit) ≡ sets (now (image .entry)) at (remoteBytes remote) ⌝ }
-{
-    let status = remote.status;
-    let output = remote.output;
-    let ovt = output.mark;
-    put_mark(image, at, status);
-    put_mark(image, at + 1, ovt);
-    put_flag(image, at + 2, output.asserted);
-}
-
-// The latches that an image holds.
+// The latches that an image holds; of a slice of another length, those of power-on.
 pub fn latches_in(image: &[u8]) -> Latches
-    ensures { λ r. ⌜ r ≡ latchesIn (now (image .entry)) ⌝ }
+    ensures { λ r. ⌜ r ≡ heldLatches (now (image .entry)) ⌝ }
 {
-    let chassis = flag_at(image, CHASSIS);
-    let sensor1 = mark_at(image, SENSOR_1);
-    let two = remote_at(image, SENSOR_2);
-    let three = remote_at(image, SENSOR_3);
-    let remote = [two, three];
+    if image.len() != IMAGE {
+        return Latches::power_on();
+    }
+    let flags = flags_in(image);
+    let two = Remote {
+        status: mark_if(is_flag(flags, Bit::B2)),
+        output: Output {
+            mark: mark_if(is_flag(flags, Bit::B3)),
+            asserted: is_flag(flags, Bit::B4),
+        },
+    };
+    let three = Remote {
+        status: mark_if(is_flag(flags, Bit::B5)),
+        output: Output {
+            mark: mark_if(is_flag(flags, Bit::B6)),
+            asserted: is_flag(flags, Bit::B7),
+        },
+    };
     Latches {
-        chassis,
-        sensor1,
-        remote,
+        chassis: is_flag(flags, Bit::B0),
+        sensor1: mark_if(is_flag(flags, Bit::B1)),
+        remote: [two, three],
     }
 }
 
@@ -123,36 +117,47 @@ pub fn latches_in(image: &[u8]) -> Latches
 pub fn put_latches(image: &mut [u8], latches: Latches)
     ensures { λ r. ⌜ now (image .exit) ≡ putFrom (now (image .entry)) 112 (flagBytes latches) ⌝ }
 {
-    if image.len() != IMAGE {
-        return;
-    }
     let sensor1 = latches.sensor1;
     let two = latches.remote[0];
     let three = latches.remote[1];
-    put_flag(image, CHASSIS, latches.chassis);
-    put_mark(image, SENSOR_1, sensor1);
-    put_remote(image, SENSOR_2, two);
-    put_remote(image, SENSOR_3, three);
+    let status2 = two.status;
+    let output2 = two.output;
+    let ovt2 = output2.mark;
+    let status3 = three.status;
+    let output3 = three.output;
+    let ovt3 = output3.mark;
+    let flags = join(
+        latches.chassis,
+        is_hot(sensor1),
+        is_hot(status2),
+        is_hot(ovt2),
+        output2.asserted,
+        is_hot(status3),
+        is_hot(ovt3),
+        output3.asserted,
+    );
+    put_flags(image, flags);
 }
 
 // The chassis latch alone.
 pub fn chassis_in(image: &[u8]) -> bool
     ensures { λ r. ⌜ r ≡ latchesIn (now (image .entry)) .chassis ⌝ }
 {
-    flag_at(image, CHASSIS)
+    cell(image, FLAGS) != 0
 }
 
-// The flags written as 0 or 1: what a call leaves that changes no latch, at a fraction of what reading and storing them costs.
-// A slice of another length stays.
+// The flags written as 0 or 1: what a call leaves that changes no latch. The compiler makes one vector of the
+// loop. A slice of another length stays.
 pub fn normalise_flags(image: &mut [u8])
     ensures { λ r. ⌜ now (image .exit) ≡ putFrom (now (image .entry)) 112 (flagBytes (latchesIn (now (image .entry)))) ⌝ }
 {
     if image.len() != IMAGE {
         return;
     }
-    let mut at = CHASSIS;
+    let mut at = FLAGS;
     while at < SPARE {
-        put(image, at, flag_byte(flag_at(image, at)));
+        let byte = cell(image, at);
+        put(image, at, flag(byte != 0));
         at += 1;
     }
 }

@@ -25,11 +25,11 @@ returns c = search (needs, put-none)
 loop-holds : tie.Need-loop-holds Inv-loop μ-loop
 loop-holds c = (search needs, search needs, refl, refl)
 
-flag-at-requires : tie.Need-flag-at-requires Inv-loop μ-loop
-flag-at-requires c κs = search needs
+cell-requires : tie.Need-cell-requires Inv-loop μ-loop
+cell-requires c κs = search needs
 
-flag-byte-requires : tie.Need-flag-byte-requires Inv-loop μ-loop
-flag-byte-requires c κs = search needs
+flag-requires : tie.Need-flag-requires Inv-loop μ-loop
+flag-requires c κs = search needs
 
 put-requires : tie.Need-put-requires Inv-loop μ-loop
 put-requires c κs = search needs
@@ -44,13 +44,13 @@ loop-again : tie.Need-loop-again Inv-loop μ-loop
 loop-again c =
     let put = c .before .before in
     let byte = put .before in
-    let look = byte .before in
-    let turn = look .before .before .before .before in
+    let look = byte .before .before in
+    let turn = look .before .before .before in
     let inv = turn .loop .inv in (
       omega arith,
       omega arith,
       search needs,
-      normalises-next (turn .before .before .before .args .image .now) _ _ _ _ _ (inv .0) (inv .3) (look .flag-at .ensures) (byte .flag-byte .ensures) (put .put .ensures),
+      normalises-next (turn .before .before .before .args .image .now) _ _ _ _ _ (inv .0) (inv .3) (look .cell .ensures) (byte .flag .ensures) (put .put .ensures),
     )
 
 same-length : tie.Need-same-length Inv-loop μ-loop
@@ -67,8 +67,8 @@ normalise-flags-spec =
     μ-loop
     returns
     loop-holds
-    flag-at-requires
-    flag-byte-requires
+    cell-requires
+    flag-requires
     put-requires
     add-at
     loop-less

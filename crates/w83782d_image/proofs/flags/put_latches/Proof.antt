@@ -1,11 +1,7 @@
 use borrow.Author.Needs.{needs}
-use Rattle.w83782d_image.proofs.Images.{put-none}
-use Rattle.w83782d_image.proofs.flags.Flags.{put-eight}
+use Rattle.w83782d_image.proofs.flags.Flags.{latches-put}
 use Rattle.w83782d_image.proofs.flags.put_latches.Statement.{statement}
 use Rattle.w83782d_image.proofs.flags.put_latches.Tie as tie
-
-returns : tie.Need-returns
-returns c = search (needs, put-none)
 
 element-copy-out-two : tie.Need-element-copy-out-two
 element-copy-out-two c = search needs
@@ -13,34 +9,45 @@ element-copy-out-two c = search needs
 element-copy-out-three : tie.Need-element-copy-out-three
 element-copy-out-three c = search needs
 
-put-flag-requires : tie.Need-put-flag-requires
-put-flag-requires c κs = search needs
+is-hot-requires : tie.Need-is-hot-requires
+is-hot-requires c κs = search needs
 
-put-mark-requires : tie.Need-put-mark-requires
-put-mark-requires c κs = search needs
+is-hot-requires-2 : tie.Need-is-hot-requires-2
+is-hot-requires-2 c κs = search needs
 
-put-remote-requires : tie.Need-put-remote-requires
-put-remote-requires c κs = search needs
+is-hot-requires-3 : tie.Need-is-hot-requires-3
+is-hot-requires-3 c κs = search needs
 
-put-remote-requires-2 : tie.Need-put-remote-requires-2
-put-remote-requires-2 c κs = search needs
+is-hot-requires-4 : tie.Need-is-hot-requires-4
+is-hot-requires-4 c κs = search needs
+
+is-hot-requires-5 : tie.Need-is-hot-requires-5
+is-hot-requires-5 c κs = search needs
+
+join-requires : tie.Need-join-requires
+join-requires c κs = search needs
+
+put-flags-requires : tie.Need-put-flags-requires
+put-flags-requires c κs = search needs
 
 same-length : tie.Need-same-length
 same-length c = search needs
 
-returns-2 : tie.Need-returns-2
-returns-2 c = search (needs, put-eight)
+returns : tie.Need-returns
+returns c = search (needs, latches-put)
 
 pub put-latches-spec : {M : Type 1} → statement M
 put-latches-spec =
     tie.close
     (tie.spec
-    returns
     element-copy-out-two
     element-copy-out-three
-    put-flag-requires
-    put-mark-requires
-    put-remote-requires
-    put-remote-requires-2
+    is-hot-requires
+    is-hot-requires-2
+    is-hot-requires-3
+    is-hot-requires-4
+    is-hot-requires-5
+    join-requires
+    put-flags-requires
     same-length
-    returns-2)
+    returns)

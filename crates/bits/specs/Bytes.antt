@@ -1,0 +1,36 @@
+-- Bytes as one number, the first lowest, and flags kept as bytes: a byte of 0 is off, any other on; written as 0 or 1.
+use mathlib.Core.Bool.{Bool, not}
+use mathlib.Core.List.{List, [], _∷_}
+use Prim.Native.Nat.{ℕ, zero, suc, _+_, _*_, _/_, _%_, _<_}
+use lib.Dec.{eqb}
+use Rattle.bits.specs.Bits.{flagOf}
+
+abbrev pub joined : List ℕ → ℕ
+joined [] = 0
+joined (b ∷ bs) = joined bs * 256 + b
+
+-- n bytes of a number, the lowest first
+abbrev pub bytesOf : ℕ → ℕ → List ℕ
+bytesOf zero w = []
+bytesOf (suc n) w = w % 256 ∷ bytesOf n (w / 256)
+
+-- each of them below 256
+abbrev pub AreBytes : List ℕ → Type 0
+AreBytes [] = Unit {0}
+AreBytes (b ∷ bs) = (b < 256) × AreBytes bs
+
+abbrev pub isSet : ℕ → Bool
+isSet b = not (eqb b 0)
+
+-- each byte of a list by a function
+abbrev pub eachByte : (ℕ → ℕ) → List ℕ → List ℕ
+eachByte f [] = []
+eachByte f (b ∷ bs) = f b ∷ eachByte f bs
+
+-- a byte as its flag is written
+abbrev pub normal : ℕ → ℕ
+normal b = flagOf (isSet b)
+
+-- eight bytes as their flags are written
+unfoldable pub flagsOf : ℕ → ℕ
+flagsOf w = joined (eachByte normal (bytesOf 8 w))

@@ -5,7 +5,7 @@
 
 use crate::image::{image_of, random, state_in};
 use crate::rng::Rng;
-use reference::{cell, write_record, Event, Monitor, Sample, RECORD_LENGTH};
+use reference::w83782d::{cell, write_record, Event, Monitor, Sample, RECORD_LENGTH};
 
 /// How much of it.
 #[derive(Clone, Copy)]

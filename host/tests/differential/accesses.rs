@@ -10,7 +10,7 @@ use crate::plans::{any_speed, ENDS_OF_SPEEDS};
 use crate::report::explain;
 use crate::rng::Rng;
 use crate::samples::near_sample;
-use reference::{cell, Event};
+use reference::w83782d::{cell, Event};
 
 fn hold(start: &Image, call: Call, origin: &str) {
     assert!(

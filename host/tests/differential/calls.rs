@@ -5,7 +5,7 @@ use crate::image::{image_of, state_in, Image, LENGTH, SPARE};
 use crate::looks::{self, Looks};
 use crate::samples::wrapped;
 use reference::answer::ACCEPTED;
-use reference::{decode, Event, Monitor, Sample};
+use reference::w83782d::{decode, Event, Monitor, Sample};
 
 #[derive(Clone, Debug, PartialEq, Eq)]
 pub enum Call {

@@ -8,7 +8,7 @@ use crate::report;
 use crate::rng::Rng;
 use crate::samples::{near_sample, HALF_DEGREES};
 use crate::sequences::{start, AIMS};
-use reference::{cell, write_record, Event, Sample, RECORD_LENGTH};
+use reference::w83782d::{cell, write_record, Event, Sample, RECORD_LENGTH};
 
 pub type Record = [u8; RECORD_LENGTH];
 

@@ -4,7 +4,8 @@
 //! value opened, hot or asserted.
 
 use crate::rng::Rng;
-use reference::{cell, Mark, Monitor, CELLS};
+use reference::w83782d::{cell, Monitor, CELLS};
+use reference::Mark;
 
 pub const LENGTH: usize = 128;
 pub const CHASSIS: usize = 112;

@@ -14,7 +14,8 @@ use crate::rng::Rng;
 use crate::samples::{monitoring, near_sample, CALM};
 use crate::sequences::{self, Aim, PLANNED};
 use reference::answer::ACCEPTED;
-use reference::{decode, u_of_speed, End, Event, InForce, Plan, Sample, RECORD_LENGTH};
+use reference::w83782d::{decode, rewrites, Event, InForce, Sample, RECORD_LENGTH};
+use reference::{u_of_speed, End, Plan};
 use std::array::from_fn;
 use std::ops::Range;
 
@@ -118,7 +119,7 @@ impl Course {
         match event {
             Event::Write { index, value } => {
                 let before = self.in_force.plans;
-                let ends = self.in_force.written(*index, *value);
+                let ends = self.in_force.written(rewrites, *index, *value);
                 for fan in 0..3 {
                     match ends[fan] {
                         Some(end) => seen.count_end(fan, end),

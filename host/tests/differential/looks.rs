@@ -7,7 +7,8 @@ use crate::image::{near_power_on, power_on, random, state_in, Image, CHASSIS, LE
 use crate::report::explain;
 use crate::rng::Rng;
 use crate::samples::with_divisor;
-use reference::{cell, Monitor, Speed};
+use reference::w83782d::{cell, Monitor};
+use reference::Speed;
 
 #[derive(Clone, Copy, Debug, PartialEq, Eq)]
 pub struct Looks {

@@ -8,7 +8,7 @@ use crate::readings::{speed_classes, COUNTS_PER_MINUTE};
 use crate::report;
 use crate::rng::Rng;
 use crate::samples::{calm_limits, CALM};
-use reference::{cell, Sample};
+use reference::w83782d::{cell, Sample};
 
 /// The first and the last speed, and refused ones beside and far beyond them.
 pub const ENDS_OF_SPEEDS: [u32; 6] = [

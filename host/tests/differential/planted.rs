@@ -10,7 +10,7 @@ use crate::looks::{self, Looks};
 use crate::report::{explain, shrink};
 use crate::samples::with_divisor;
 use crate::sequences::{calls, start, AIMS};
-use reference::{cell, Event};
+use reference::w83782d::{cell, Event};
 
 /// Sensor 3's OVT output.
 const OVT_3: usize = 119;

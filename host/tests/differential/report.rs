@@ -3,7 +3,7 @@
 use crate::calls::{first_disagreement, Call, Expected, Subject};
 use crate::image::{Image, LENGTH};
 use crate::looks::Looks;
-use reference::{decode, RECORD_LENGTH};
+use reference::w83782d::{decode, RECORD_LENGTH};
 use std::fmt::Write;
 
 /// The place of the first call of a list that fails.

@@ -7,7 +7,7 @@ use crate::image::{near_power_on, power_on, random, Image, CHASSIS, LENGTH};
 use crate::records::bytes;
 use crate::report;
 use crate::rng::Rng;
-use reference::{cell, Sample};
+use reference::w83782d::{cell, Sample};
 
 /// Half degrees at the ends of what is allowed, and of what a record can hold.
 pub const HALF_DEGREES: [i16; 12] = [

@@ -7,7 +7,7 @@ use crate::plans::any_plan;
 use crate::report::hold;
 use crate::rng::Rng;
 use crate::samples::{any_sample, near_sample, ANCHORS};
-use reference::{Event, RECORD_LENGTH};
+use reference::w83782d::{Event, RECORD_LENGTH};
 
 /// What a list of calls is after.
 #[derive(Clone, Copy, Debug)]

@@ -4,7 +4,7 @@
 #[path = "../../../tests/differential/rng.rs"]
 pub mod rng;
 
-use reference::{write_record, Event, Sample, RECORD_LENGTH};
+use reference::w83782d::{write_record, Event, Sample, RECORD_LENGTH};
 use rng::Rng;
 
 /// The record of an event by the second program.

@@ -1,7 +1,7 @@
 //! Plans and readings, through the boundary and through the wrapper.
 
 use crate::boundary;
-use crate::rng::Rng;
+use crate::common::rng::Rng;
 
 /// "1,350,000 / w"
 pub const COUNTS_PER_MINUTE: u32 = 1_350_000;

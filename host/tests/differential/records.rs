@@ -1,7 +1,7 @@
 //! Event records, through the boundary and through the wrapper.
 
 use crate::boundary::records as boundary;
-use crate::rng::Rng;
+use crate::common::rng::Rng;
 use crate::samples::{any_sample, wrapped, HALF_DEGREES};
 use reference::w83782d::{Event, Sample, RECORD_LENGTH};
 use w83782d::Record;

@@ -1,7 +1,7 @@
 //! Random events, and what the second program makes of them.
 #![allow(dead_code)]
 
-#[path = "../../../tests/differential/rng.rs"]
+#[path = "../../../tests/common/rng.rs"]
 pub mod rng;
 
 use reference::w83782d::{write_record, Event, Sample, RECORD_LENGTH};

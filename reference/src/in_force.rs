@@ -1,6 +1,7 @@
 //! Plans in force, which demand 3 of document 01 speaks of. They follow from the
 //! calls and their answers alone: nothing here looks at a monitor, and plans are
-//! worked out apart from the planner.
+//! worked out apart from the planner. Of a chip it takes the number of fans and
+//! what a rewrite is.
 
 /// "A plan is a divisor d and a limit L from 0 to 254." d is 2 to the power k.
 #[derive(Clone, Copy, Debug, PartialEq, Eq)]
@@ -49,25 +50,38 @@ pub enum End {
     NextPlan,
 }
 
-/// The plans in force on fans 1 to 3; none where a list of calls starts. "A
-/// refused call ends nothing": only accepted calls are told.
-#[derive(Clone, Copy, Debug, Default, PartialEq, Eq)]
-pub struct InForce {
-    pub plans: [Option<Plan>; 3],
+/// "A rewrite is an accepted write whose byte gives a bit of that fan's limit or
+/// divisor another value than the plan's." Each chip says it of its registers,
+/// for a fan (0 being fan 1), the plan in force on it, an index and a byte.
+pub type Rewrites = fn(fan: u8, plan: Plan, index: u8, value: u8) -> bool;
+
+/// The plans in force on each fan; none where a list of calls starts. "A refused
+/// call ends nothing": only accepted calls are told.
+#[derive(Clone, Copy, Debug, PartialEq, Eq)]
+pub struct InForce<const FANS: usize> {
+    pub plans: [Option<Plan>; FANS],
 }
 
-impl InForce {
-    /// A plan was set on fan 1 to 3, answered 0. Gives what it ended there.
+impl<const FANS: usize> Default for InForce<FANS> {
+    fn default() -> InForce<FANS> {
+        InForce {
+            plans: [None; FANS],
+        }
+    }
+}
+
+impl<const FANS: usize> InForce<FANS> {
+    /// A plan was set on a fan from 1 on, answered 0. Gives what it ended there.
     pub fn planned(&mut self, fan: u8, rpm: u32) -> Option<End> {
         let plan = &mut self.plans[usize::from(fan) - 1];
         plan.replace(Plan::of(rpm)).map(|_| End::NextPlan)
     }
 
     /// A bus write was accepted. Gives what it ended on each fan.
-    pub fn written(&mut self, index: u8, value: u8) -> [Option<End>; 3] {
-        let mut ends = [None; 3];
+    pub fn written(&mut self, rewrites: Rewrites, index: u8, value: u8) -> [Option<End>; FANS] {
+        let mut ends = [None; FANS];
         for (fan, plan) in self.plans.iter_mut().enumerate() {
-            ends[fan] = plan.and_then(|plan| end(fan as u8, plan, index, value));
+            ends[fan] = plan.and_then(|plan| end(rewrites, fan as u8, plan, index, value));
             if ends[fan].is_some() {
                 *plan = None;
             }
@@ -76,8 +90,9 @@ impl InForce {
     }
 }
 
-/// How an accepted write ends a plan on a fan, 0 being fan 1.
-fn end(fan: u8, plan: Plan, index: u8, value: u8) -> Option<End> {
+/// How an accepted write ends a plan on a fan, 0 being fan 1. "A reset by 40h bit
+/// 7" is one on each chip of the family.
+fn end(rewrites: Rewrites, fan: u8, plan: Plan, index: u8, value: u8) -> Option<End> {
     if index == 0x40 && value & 0x80 != 0 {
         return Some(End::Reset);
     }
@@ -85,21 +100,4 @@ fn end(fan: u8, plan: Plan, index: u8, value: u8) -> Option<End> {
         return Some(End::Rewrite);
     }
     None
-}
-
-/// "A rewrite is an accepted write whose byte gives a bit of that fan's limit or
-/// divisor another value than the plan's." 5Dh is in bank 0 only, so that it was
-/// accepted is enough; 7Bh to 7Dh are 3Bh to 3Dh.
-fn rewrites(fan: u8, plan: Plan, index: u8, value: u8) -> bool {
-    let low = plan.k & 3;
-    let top = plan.k >> 2;
-    match (index, fan) {
-        (0x3B..=0x3D, _) if index - 0x3B == fan => value != plan.limit,
-        (0x7B..=0x7D, _) if index - 0x7B == fan => value != plan.limit,
-        (0x47, 0) => value >> 4 & 3 != low,
-        (0x47, 1) => value >> 6 != low,
-        (0x4B, 2) => value >> 6 != low,
-        (0x5D, _) => value >> (5 + fan) & 1 != top,
-        _ => false,
-    }
 }

@@ -8,22 +8,21 @@
 //!
 //! Every state is allowed as a start, also one whose cells hold bits that no
 //! call could have put there. A refused call leaves the state unchanged.
+//!
+//! The chip is a module: its registers, its state and what its calls do. Beside
+//! it stand the rules that another chip of the family would share: plans, plans
+//! in force, speed, the steps of a temperature sensor, answer numbers.
 
 mod in_force;
-mod map;
-mod monitor;
 mod plan;
-mod readings;
-mod record;
-mod sample;
+mod sensor;
+mod speed;
+pub mod w83782d;
 
-pub use in_force::{End, InForce, Plan};
-pub use map::{cell, find, Register, Row, ANY, CELLS, REGISTERS, ROWS};
-pub use monitor::{Mark, Monitor};
+pub use in_force::{End, InForce, Plan, Rewrites};
 pub use plan::{plan, u_of_speed};
-pub use readings::{millivolts, pwm_parts, Speed};
-pub use record::{decode, record_at, write_record, Event, RECORD_LENGTH};
-pub use sample::Sample;
+pub use sensor::Mark;
+pub use speed::Speed;
 
 /// "Answer numbers" of document 01.
 pub mod answer {

@@ -1,9 +1,8 @@
-//! "Planning a fan alarm" of document 01.
+//! "Planning a fan alarm" of document 01, apart from the registers that a plan
+//! is set in.
 
-use crate::answer::{ACCEPTED, BAD_SPEED, NO_CHANNEL};
-use crate::monitor::Monitor;
-use crate::readings::{place, COUNTS_PER_MINUTE, DIVISOR_LOW, DIVISOR_TOP};
-use crate::sample::FAN_LIMIT;
+use crate::answer::{ACCEPTED, BAD_SPEED};
+use crate::speed::COUNTS_PER_MINUTE;
 
 /// "A fan at a/b rpm (b at least 1) gives u = 1,350,000 b / a rounded down, at
 /// most 4,294,967,295; a = 0 gives that maximum." That b is at least 1 is the
@@ -29,7 +28,7 @@ pub fn plan(rpm: u32) -> (u8, u32, u8) {
 /// (L+1)d not above K; of equals, the smallest d." Every divisor is tried with
 /// every limit, the smaller divisors first, and a plan gives way to a larger
 /// product only. The divisor is 2 to the power k; gives k and L.
-fn search(rpm: u32) -> Option<(u8, u8)> {
+pub(crate) fn search(rpm: u32) -> Option<(u8, u8)> {
     // "Planned speed 0 or above 1,350,000: no plan."
     if rpm == 0 || rpm > COUNTS_PER_MINUTE {
         return None;
@@ -47,29 +46,4 @@ fn search(rpm: u32) -> Option<(u8, u8)> {
         }
     }
     best
-}
-
-impl Monitor {
-    /// "Setting it writes that fan's limit and three divisor bits, and nothing
-    /// else, whatever bank is selected and whether or not samples are stopped."
-    /// "Stored counts and real-time bits wait for the next sample."
-    pub fn set_plan(&mut self, fan: u8, rpm: u32) -> u8 {
-        // "7 before 6"
-        let Some(fan) = place(fan) else {
-            return NO_CHANNEL;
-        };
-        let Some((k, limit)) = search(rpm) else {
-            return BAD_SPEED;
-        };
-        self.registers[FAN_LIMIT + fan] = limit;
-        self.set_bits(DIVISOR_LOW[fan], 0x03, k & 0x03);
-        self.set_bits(DIVISOR_TOP[fan], 0x01, k >> 2);
-        ACCEPTED
-    }
-
-    /// Replaces the bits of a mask, whose lowest bit stands at `bit`.
-    fn set_bits(&mut self, (cell, bit): (usize, u32), mask: u8, value: u8) {
-        let kept = self.registers[cell] & !(mask << bit);
-        self.registers[cell] = kept | (value << bit);
-    }
 }

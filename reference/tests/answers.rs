@@ -4,7 +4,8 @@
 mod common;
 
 use common::{any_sample, any_state, at, select, Rng, CALM};
-use reference::{answer, decode, millivolts, plan, write_record, Event, Monitor, Speed};
+use reference::w83782d::{decode, millivolts, write_record, Event, Monitor};
+use reference::{answer, plan, Speed};
 
 #[test]
 fn the_named_answers_are_the_papers_numbers() {

@@ -3,7 +3,8 @@
 mod common;
 
 use common::{at, peek, quiet, select, CALM};
-use reference::{plan, Monitor};
+use reference::plan;
+use reference::w83782d::Monitor;
 
 #[test]
 fn the_smallest_divisor_that_reaches_k_is_not_always_the_plan() {

@@ -3,7 +3,8 @@
 mod common;
 
 use common::{fan_rings, CALM};
-use reference::{decode, millivolts, plan, write_record, Event, Monitor, Speed};
+use reference::w83782d::{decode, millivolts, write_record, Event, Monitor};
+use reference::{plan, Speed};
 
 #[test]
 fn planned_speeds_give_the_printed_plans() {

@@ -3,8 +3,8 @@
 mod common;
 
 use common::{at_temperature, poke, quiet, select, set_limits, CALM};
+use reference::w83782d::Monitor;
 use reference::Mark::{Armed, Hot};
-use reference::Monitor;
 
 /// Over limit 80, hysteresis 75 degrees, OVT mode by bank's 52h bit 1.
 fn set_up(sensor: u8, interrupt: bool) -> Monitor {

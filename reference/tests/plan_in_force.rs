@@ -5,7 +5,8 @@
 mod common;
 
 use common::{any_sample, any_state, fan_rings, Rng};
-use reference::{plan, End, InForce, Monitor, Plan};
+use reference::w83782d::{rewrites, InForce, Monitor};
+use reference::{plan, End, Plan};
 
 #[derive(Default)]
 struct Tally {
@@ -75,7 +76,7 @@ fn one_list(rng: &mut Rng, start: Monitor, length: u32, tally: &mut Tally) {
                 let value = any_value(rng, index, &in_force);
                 if m.write(index, value) == 0 {
                     let any = in_force != InForce::default();
-                    let ends = in_force.written(index, value);
+                    let ends = in_force.written(rewrites, index, value);
                     let ended = |by| ends.iter().filter(|end| **end == Some(by)).count();
                     tally.resets += ended(End::Reset);
                     tally.rewrites += ended(End::Rewrite);
@@ -103,7 +104,7 @@ fn one_list(rng: &mut Rng, start: Monitor, length: u32, tally: &mut Tally) {
             // Starts samples again, from any bank.
             9 => {
                 assert_eq!(m.write(0x40, 0x01), 0);
-                in_force.written(0x40, 0x01);
+                in_force.written(rewrites, 0x40, 0x01);
             }
             _ => {
                 let mut s = any_sample(rng);
@@ -194,7 +195,7 @@ fn the_same_bits_end_nothing_and_a_second_place_counts() {
         (0x4E, 0x07, [false, false, false]),
     ] {
         let mut in_force = all();
-        in_force.written(index, value);
+        in_force.written(rewrites, index, value);
         let expected = ended.map(|ended| if ended { None } else { Some(plan) });
         assert_eq!(in_force.plans, expected, "{index:02X}h {value:02X}h");
     }
@@ -206,8 +207,8 @@ fn a_plan_whose_bits_come_back_is_not_in_force_again() {
     let mut in_force = InForce {
         plans: [Some(plan); 3],
     };
-    in_force.written(0x3B, 0);
-    in_force.written(0x3B, 152);
+    in_force.written(rewrites, 0x3B, 0);
+    in_force.written(rewrites, 0x3B, 152);
     assert_eq!(in_force.plans, [None, Some(plan), Some(plan)]);
 }
 

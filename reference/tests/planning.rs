@@ -4,7 +4,8 @@
 mod common;
 
 use common::{any_state, at, fan_rings, quiet, select, Rng, CALM};
-use reference::{plan, u_of_speed, Monitor};
+use reference::w83782d::Monitor;
+use reference::{plan, u_of_speed};
 
 /// The first and last speed of every class of speeds with one K, and K.
 fn classes() -> Vec<(u32, u32, u32)> {

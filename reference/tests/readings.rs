@@ -3,7 +3,8 @@
 mod common;
 
 use common::{any_state, at, Rng};
-use reference::{millivolts, pwm_parts, Monitor, Speed};
+use reference::w83782d::{millivolts, pwm_parts, Monitor};
+use reference::Speed;
 
 #[test]
 fn channels_0_to_2_are_16_millivolts_a_step() {

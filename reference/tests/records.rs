@@ -3,7 +3,7 @@
 mod common;
 
 use common::{any_sample, any_state, Rng, CALM};
-use reference::{decode, record_at, write_record, Event, Monitor, Sample};
+use reference::w83782d::{decode, record_at, write_record, Event, Monitor, Sample};
 
 fn record_of(event: &Event) -> [u8; 32] {
     let mut buffer = [0xEE; 32];

@@ -4,7 +4,7 @@
 mod common;
 
 use common::{any_state, at, poke, select, Rng};
-use reference::Monitor;
+use reference::w83782d::Monitor;
 
 /// What a read shows at power-on and the writable bits, by bank and index;
 /// `None` is answered 1. Bank 4Eh is left to the tests.

@@ -4,7 +4,8 @@
 mod common;
 
 use common::{any_sample, any_state, at, peek, poke, quiet, select, Rng, CALM};
-use reference::{Mark, Monitor};
+use reference::w83782d::Monitor;
+use reference::Mark;
 
 #[test]
 fn reset_restores_power_on_but_for_48h_readings_and_chassis() {

@@ -3,7 +3,8 @@
 mod common;
 
 use common::{any_sample, any_state, at, peek, quiet, Rng, CALM};
-use reference::{Mark, Monitor, Sample};
+use reference::w83782d::{Monitor, Sample};
+use reference::Mark;
 
 /// 41h, 42h by reads that clear them, and bank 4 59h, 5Ah.
 fn bits(m: &mut Monitor) -> ([u8; 2], [u8; 2]) {

@@ -3,7 +3,7 @@
 mod common;
 
 use common::{any_state, at, quiet, Rng, CALM};
-use reference::{Monitor, Sample};
+use reference::w83782d::{Monitor, Sample};
 
 /// A quiet monitor with SMI enabled and VCOREA high limit 99; the sample that
 /// exceeds it.

@@ -3,7 +3,8 @@
 mod common;
 
 use common::{at_temperature, peek, poke, quiet, select, set_limits, take_status, CALM};
-use reference::{Mark, Monitor};
+use reference::w83782d::Monitor;
+use reference::Mark;
 
 /// Sets the status mode of a sensor and limits over 80, hysteresis 75 degrees
 /// (sensor 1 in comparator mode has hysteresis 127).

@@ -2,7 +2,8 @@
 //! states.
 
 use crate::image::{state_in, Image};
-use reference::{Event, Monitor, Plan};
+use reference::w83782d::{Event, Monitor};
+use reference::Plan;
 use std::fmt::Debug;
 use std::hint::black_box;
 use std::rc::Rc;

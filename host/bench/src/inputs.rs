@@ -3,9 +3,9 @@
 //! "Usual" is what a cabinet sees: limits set, readings near their middle, a host
 //! that polls. "Any" is any number from any state, refused calls among them.
 
+use crate::common::rng::Rng;
 use crate::image::{image_of, random, state_in};
-use crate::rng::Rng;
-use reference::{cell, write_record, Event, Monitor, Sample, RECORD_LENGTH};
+use reference::w83782d::{cell, write_record, Event, Monitor, Sample, RECORD_LENGTH};
 
 /// How much of it.
 #[derive(Clone, Copy)]

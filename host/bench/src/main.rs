@@ -13,14 +13,14 @@ mod table;
 mod time;
 
 // Shared with the wrapper and the tests, which use the rest of them.
+#[path = "../../tests/common/mod.rs"]
+mod common;
 #[allow(dead_code)]
 #[path = "../../tests/differential/image.rs"]
 mod image;
 #[allow(dead_code)]
 #[path = "../../src/raw.rs"]
 mod raw;
-#[path = "../../tests/differential/rng.rs"]
-mod rng;
 
 use inputs::Size;
 use rows::rows;

@@ -5,11 +5,12 @@
 //! that its caller doesn't use.
 
 use crate::calls::{row, About, Row, Run};
+use crate::common::rng::Rng;
 use crate::image::Image;
 use crate::inputs::{self, Part, Record, Size};
 use crate::raw;
-use crate::rng::Rng;
-use reference::{cell, decode, Event, Monitor, Plan, Sample};
+use reference::w83782d::{cell, decode, Event, Monitor, Sample};
+use reference::Plan;
 use std::hint::black_box;
 use std::rc::Rc;
 use w83782d::IMAGE_SIZE;

@@ -1,7 +1,7 @@
 //! The bundled day of a cabinet, `examples/cabinet-day.script` and its log: what
 //! its comments say is what the second program does.
 
-use reference::{decode, Event, Monitor};
+use reference::w83782d::{decode, Event, Monitor};
 use std::fs;
 use std::path::Path;
 use w83782d_log::{pack, unpack};

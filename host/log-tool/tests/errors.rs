@@ -4,7 +4,7 @@ mod common;
 
 use common::rng::Rng;
 use common::{any_event, log, record};
-use reference::{decode, record_at, Event, RECORD_LENGTH};
+use reference::w83782d::{decode, record_at, Event, RECORD_LENGTH};
 use w83782d_log::{pack, unpack, Fault};
 
 /// What is told of a line that stands third, below a comment and an event.

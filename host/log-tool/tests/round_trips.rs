@@ -4,7 +4,7 @@ mod common;
 
 use common::rng::Rng;
 use common::{any_event, log, script};
-use reference::{Event, Sample};
+use reference::w83782d::{Event, Sample};
 use w83782d_log::{pack, unpack};
 
 fn any_events(rng: &mut Rng) -> Vec<Event> {

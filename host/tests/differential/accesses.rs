@@ -1,16 +1,17 @@
 //! Single calls, exhaustive where the choices are few.
 
 use crate::boundary;
-use crate::calls::{agrees, Call, LIBRARY};
+use crate::calls::{Call, LIBRARY};
+use crate::common::lists::agrees;
+use crate::common::report::explain;
+use crate::common::rng::Rng;
 use crate::events::record_of;
 use crate::image::{
     image_of, in_bank, near_power_on, power_on, random, state_in, Image, CHASSIS, LENGTH, SPARE,
 };
 use crate::plans::{any_speed, ENDS_OF_SPEEDS};
-use crate::report::explain;
-use crate::rng::Rng;
 use crate::samples::near_sample;
-use reference::{cell, Event};
+use reference::w83782d::{cell, Event};
 
 fn hold(start: &Image, call: Call, origin: &str) {
     assert!(

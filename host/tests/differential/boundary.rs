@@ -1,7 +1,7 @@
 //! The C functions, with slices for pointer and length: the wrapper can't lend
 //! an image of another length, and these tests must.
 
-use reference::Sample;
+use reference::w83782d::Sample;
 
 #[path = "../../src/raw.rs"]
 mod raw;
@@ -127,7 +127,7 @@ pub fn pwm_parts(x: u8) -> u16 {
 
 pub mod records {
     use super::raw;
-    use reference::Sample;
+    use reference::w83782d::Sample;
 
     pub fn decode(record: &[u8]) -> u8 {
         // SAFETY: pointer and length are those of the slice.

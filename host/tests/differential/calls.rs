@@ -1,11 +1,12 @@
 //! Calls on a monitor, and how the library and `reference` carry them out.
 
 use crate::boundary::{self, Answer};
-use crate::image::{image_of, state_in, Image, LENGTH, SPARE};
+use crate::common::lists::{self, Listed, Model};
+use crate::image::{image_of, place, state_in, Image, LENGTH, SPARE};
 use crate::looks::{self, Looks};
 use crate::samples::wrapped;
 use reference::answer::ACCEPTED;
-use reference::{decode, Event, Monitor, Sample};
+use reference::w83782d::{decode, Event, Monitor, Sample, RECORD_LENGTH};
 
 #[derive(Clone, Debug, PartialEq, Eq)]
 pub enum Call {
@@ -43,15 +44,48 @@ impl From<Event> for Call {
     }
 }
 
-/// What is tested: how a call is carried out on an image, and what is then seen.
-#[derive(Clone, Copy)]
-pub struct Subject {
-    pub call: CarryOut,
-    pub looks: Look,
+impl Listed for Call {
+    fn in_words(&self) -> String {
+        match self {
+            Call::PowerOn => "power-on".into(),
+            Call::Write { index, value } => format!("write {value:02X}h to {index:02X}h"),
+            Call::Read { index } => format!("read {index:02X}h"),
+            Call::ChassisOpened => "chassis opened".into(),
+            Call::Sample(sample) => format!("{sample:?}"),
+            Call::SetPlan { fan, rpm } => format!("plan {rpm} rpm on fan {fan}"),
+            Call::Event { record } => format!("event {record:02X?}"),
+            Call::Replay { log } => log
+                .chunks(RECORD_LENGTH)
+                .fold("replay".into(), |text, record| {
+                    format!("{text}\n  {record:02X?}")
+                }),
+        }
+    }
+
+    /// For a log, the logs without one of its records, or its only record; for a
+    /// record, the call of its event.
+    fn simpler(&self) -> Vec<Call> {
+        match self {
+            Call::Replay { log } if log.len() == RECORD_LENGTH => vec![Call::Event {
+                record: log.clone(),
+            }],
+            Call::Replay { log } => {
+                let starts = (0..log.len()).step_by(RECORD_LENGTH);
+                let shorter = starts.map(|from| {
+                    let to = log.len().min(from + RECORD_LENGTH);
+                    [&log[..from], &log[to..]].concat()
+                });
+                shorter.map(|log| Call::Replay { log }).collect()
+            }
+            Call::Event { record } => decode(record).ok().map(Call::from).into_iter().collect(),
+            _ => vec![],
+        }
+    }
 }
 
-pub type CarryOut = fn(&mut Image, &Call) -> Answer;
-pub type Look = fn(&Image) -> Looks;
+pub type Subject = lists::Subject<Expected>;
+pub type CarryOut = lists::CarryOut<Expected>;
+pub type Look = lists::Look<Expected>;
 
 pub const LIBRARY: Subject = Subject {
     call: library,
@@ -112,11 +146,18 @@ fn wrapper(image: &mut Image, call: &Call) -> Answer {
 #[derive(Clone)]
 pub struct Expected {
     monitor: Monitor,
-    pub image: Image,
+    image: Image,
 }
 
-impl Expected {
-    pub fn from(image: &Image) -> Expected {
+impl Model for Expected {
+    type Image = Image;
+    type Call = Call;
+    type Answer = Answer;
+    type Looks = Looks;
+
+    const ANSWER: &'static str = "(answer, byte or records)";
+
+    fn of(image: &Image) -> Expected {
         Expected {
             monitor: state_in(image),
             image: *image,
@@ -126,7 +167,7 @@ impl Expected {
     /// An accepted call leaves its state in the image and keeps the spare bytes,
     /// which power-on sets to 0. A refused call leaves every byte, and so does a
     /// replay that accepted no record; any other replay is an accepted call.
-    pub fn call(&mut self, call: &Call) -> Answer {
+    fn call(&mut self, call: &Call) -> Answer {
         let mut spare = [0; LENGTH - SPARE];
         spare.copy_from_slice(&self.image[SPARE..]);
         let (answer, more) = match call {
@@ -156,35 +197,19 @@ impl Expected {
         (answer, more)
     }
 
-    pub fn looks(&self) -> Looks {
+    fn looks(&self) -> Looks {
         looks::expected(&self.monitor)
+    }
+
+    fn image(&self) -> &Image {
+        &self.image
+    }
+
+    fn place(at: usize) -> String {
+        place(at)
     }
 }
 
 fn with_byte((answer, byte): (u8, u8)) -> Answer {
     (answer, byte.into())
-}
-
-/// Whether one call from an image agrees, without what is then seen.
-pub fn agrees(subject: Subject, start: &Image, call: &Call) -> bool {
-    let mut expected = Expected::from(start);
-    let mut found = *start;
-    (subject.call)(&mut found, call) == expected.call(call) && found == expected.image
-}
-
-/// Carries out one more call on both sides: whether the answers, what is then
-/// seen and the images agree.
-pub fn step(subject: Subject, expected: &mut Expected, found: &mut Image, call: &Call) -> bool {
-    (subject.call)(found, call) == expected.call(call)
-        && (subject.looks)(found) == expected.looks()
-        && *found == expected.image
-}
-
-/// The place of the first call of a list that does not agree.
-pub fn first_disagreement(subject: Subject, start: &Image, calls: &[Call]) -> Option<usize> {
-    let mut expected = Expected::from(start);
-    let mut found = *start;
-    calls
-        .iter()
-        .position(|call| !step(subject, &mut expected, &mut found, call))
 }

@@ -2,13 +2,13 @@
 
 use crate::boundary;
 use crate::calls::{Call, LIBRARY, WRAPPER};
+use crate::common::report;
+use crate::common::rng::Rng;
 use crate::image::{in_bank, power_on, Image, CHASSIS, LENGTH};
 use crate::records::bytes;
-use crate::report;
-use crate::rng::Rng;
 use crate::samples::{near_sample, HALF_DEGREES};
 use crate::sequences::{start, AIMS};
-use reference::{cell, write_record, Event, Sample, RECORD_LENGTH};
+use reference::w83782d::{cell, write_record, Event, Sample, RECORD_LENGTH};
 
 pub type Record = [u8; RECORD_LENGTH];
 

@@ -3,8 +3,9 @@
 //! (117-119), spare 120-127. A flag of 0 is closed, armed or released, any other
 //! value opened, hot or asserted.
 
-use crate::rng::Rng;
-use reference::{cell, Mark, Monitor, CELLS};
+use crate::common::rng::Rng;
+use reference::w83782d::{cell, Monitor, CELLS};
+use reference::Mark;
 
 pub const LENGTH: usize = 128;
 pub const CHASSIS: usize = 112;
@@ -77,4 +78,22 @@ pub fn in_bank(image: &Image, bank: u8) -> Image {
     let mut image = *image;
     image[select] = image[select] & 0xF8 | bank;
     image
+}
+
+/// Where a byte of the image lies.
+pub fn place(at: usize) -> String {
+    match at {
+        0..=47 => format!("cell of {:02X}h", at + 0x20),
+        48..=63 => format!("cell of bank 0 {:02X}h", at + 0x20),
+        64..=79 => format!("cell of bank 1 {:02X}h", at - 64 + 0x50),
+        80..=95 => format!("cell of bank 2 {:02X}h", at - 80 + 0x50),
+        96..=111 => format!("cell of bank 4 {:02X}h", at - 96 + 0x50),
+        112 => "chassis latch".into(),
+        113 => "sensor 1 mark".into(),
+        114..=119 => {
+            let flag = ["status mark", "OVT mark", "OVT output"][(at - 114) % 3];
+            format!("sensor {} {flag}", 2 + (at - 114) / 3)
+        }
+        _ => format!("spare byte {at}"),
+    }
 }

@@ -1,241 +1,86 @@
 //! Demand 3 of document 01 on the library: while a plan is in force on a fan, each
 //! accepted sample leaves the fan's real-time bit 1 exactly when u >= (L+1)d.
-//!
-//! Which plans are in force is told by `reference::InForce` from the calls and
-//! the second program's answers; the bit is what the library's bus shows.
 
-use crate::calls::{step, Call, Expected, Subject, LIBRARY, WRAPPER};
+use crate::boundary::Answer;
+use crate::calls::{Call, Expected, Subject, LIBRARY, WRAPPER};
+use crate::common::in_force::{self, hold_lists, hold_plans, rings_as_due, Act, Fans, Refused};
+use crate::common::lists::{step, Listed};
+use crate::common::rng::Rng;
 use crate::events::record_of;
 use crate::image::{in_bank, power_on, random, Image};
 use crate::plans::{any_plan, EACH_DIVISOR};
 use crate::readings::speed_classes;
-use crate::report::{hold, in_words, shrink};
-use crate::rng::Rng;
 use crate::samples::{monitoring, near_sample, CALM};
 use crate::sequences::{self, Aim, PLANNED};
 use reference::answer::ACCEPTED;
-use reference::{decode, u_of_speed, End, Event, InForce, Plan, Sample, RECORD_LENGTH};
+use reference::w83782d::{decode, rewrites, Event, InForce, Sample, RECORD_LENGTH};
+use reference::{u_of_speed, Plan, Rewrites};
 use std::array::from_fn;
-use std::ops::Range;
 
-/// What a run has met, so that it can't pass for want of cases. Fans 1 to 3.
-#[derive(Clone, Debug, Default)]
-struct Seen {
-    /// Bits checked after samples, by what the plan in force says.
-    rang: [u64; 3],
-    silent: [u64; 3],
-    /// Plans in force that ended, by what ended them.
-    resets: [u64; 3],
-    rewrites: [u64; 3],
-    next_plans: [u64; 3],
-    /// Accepted writes to the plan's registers that ended nothing.
-    same_bits: [u64; 3],
-    /// Refused calls with a plan in force on some fan.
-    refused_plans: u64,
-    refused_writes: u64,
-    refused_samples: u64,
-}
+type Course = in_force::Course<Expected, 3>;
+type Seen = in_force::Seen<3>;
 
-impl Seen {
-    fn checks(&self) -> u64 {
-        [self.rang, self.silent].iter().flatten().sum()
-    }
+impl Fans<3> for Expected {
+    const REWRITES: Rewrites = rewrites;
 
-    /// Both outcomes and every ending so often on each fan, and refusals.
-    fn enough(&self, least: u64) -> bool {
-        let by_fan = [
-            self.rang,
-            self.silent,
-            self.resets,
-            self.rewrites,
-            self.next_plans,
-            self.same_bits,
-        ];
-        let refused = [
-            self.refused_plans,
-            self.refused_writes,
-            self.refused_samples,
-        ];
-        by_fan.iter().flatten().chain(&refused).all(|n| *n >= least)
-    }
-
-    fn count_end(&mut self, fan: usize, end: End) {
-        match end {
-            End::Reset => self.resets[fan] += 1,
-            End::Rewrite => self.rewrites[fan] += 1,
-            End::NextPlan => self.next_plans[fan] += 1,
-        }
-    }
-}
-
-/// For each fan what its real-time bit must be; `None` where nothing is said.
-type Due = [Option<bool>; 3];
-
-/// A list of calls on the second program's side.
-#[derive(Clone)]
-struct Course {
-    expected: Expected,
-    in_force: InForce,
-}
-
-impl Course {
-    fn from(start: &Image) -> Course {
-        Course {
-            expected: Expected::from(start),
-            in_force: InForce::default(),
-        }
-    }
-
-    fn call(&mut self, call: &Call, seen: &mut Seen) -> Due {
-        let (answer, more) = self.expected.call(call);
+    /// Of a log, its first records were accepted.
+    fn acts(call: &Call, (answer, more): &Answer) -> Vec<Act<3>> {
+        let act = |record: &[u8]| act_of(decode(record).expect("an accepted record"));
+        let accepted = *answer == ACCEPTED;
         match call {
-            // "The list starts from power-on": another list.
-            Call::PowerOn => self.in_force = InForce::default(),
-            Call::SetPlan { fan, rpm } if answer == ACCEPTED => {
-                if let Some(end) = self.in_force.planned(*fan, *rpm) {
-                    seen.count_end(usize::from(*fan) - 1, end);
-                }
+            Call::Replay { log } => {
+                let records = log.chunks(RECORD_LENGTH).take(*more as usize);
+                records.map(act).collect()
             }
-            _ => {}
-        }
-        if answer != ACCEPTED && self.in_force != InForce::default() {
-            match call {
-                Call::SetPlan { .. } => seen.refused_plans += 1,
-                Call::Write { .. } => seen.refused_writes += 1,
-                Call::Sample(_) => seen.refused_samples += 1,
-                _ => {}
-            }
-        }
-        // Of a log only what its last accepted record leaves is seen.
-        let mut due = [None; 3];
-        for event in accepted_events(call, answer, more) {
-            due = self.accepted(&event, seen);
-        }
-        due
-    }
-
-    fn accepted(&mut self, event: &Event, seen: &mut Seen) -> Due {
-        match event {
-            Event::Write { index, value } => {
-                let before = self.in_force.plans;
-                let ends = self.in_force.written(*index, *value);
-                for fan in 0..3 {
-                    match ends[fan] {
-                        Some(end) => seen.count_end(fan, end),
-                        None if before[fan].is_some() && holds_plan(fan, *index) => {
-                            seen.same_bits[fan] += 1;
-                        }
-                        None => {}
-                    }
-                }
-                [None; 3]
-            }
-            Event::Sample(sample) => {
-                from_fn(|fan| self.in_force.plans[fan].map(|plan| plan.rings(sample.u[fan])))
-            }
-            _ => [None; 3],
+            Call::PowerOn => vec![Act::Start],
+            Call::SetPlan { .. } if !accepted => vec![Act::Refused(Refused::Plan)],
+            Call::Write { .. } if !accepted => vec![Act::Refused(Refused::Write)],
+            Call::Sample(_) if !accepted => vec![Act::Refused(Refused::Sample)],
+            _ if !accepted => vec![],
+            Call::SetPlan { fan, rpm } => vec![Act::Plan {
+                fan: *fan,
+                rpm: *rpm,
+            }],
+            Call::Event { record } => vec![act(record)],
+            Call::Write { index, value } => vec![Act::Write {
+                index: *index,
+                value: *value,
+            }],
+            Call::Sample(sample) => vec![Act::Sample { u: sample.u }],
+            Call::Read { .. } | Call::ChassisOpened => vec![Act::Other],
         }
     }
-}
 
-/// Whether an index reaches a register with bits of a fan's limit or divisor.
-fn holds_plan(fan: usize, index: u8) -> bool {
-    let low = [0x47, 0x47, 0x4B][fan];
-    let limits = [0x3B, 0x7B].map(|first| first + fan as u8);
-    index == 0x5D || index == low || limits.contains(&index)
-}
+    fn holds_plan(fan: usize, index: u8) -> bool {
+        let low = [0x47, 0x47, 0x4B][fan];
+        let limits = [0x3B, 0x7B].map(|first| first + fan as u8);
+        index == 0x5D || index == low || limits.contains(&index)
+    }
 
-/// The events of a call that were accepted, by its answer: of a log, its first
-/// records.
-fn accepted_events(call: &Call, answer: u8, more: u64) -> Vec<Event> {
-    let event = |record: &[u8]| decode(record).expect("an accepted record");
-    match call {
-        Call::Replay { log } => {
-            let records = log.chunks(RECORD_LENGTH).take(more as usize);
-            records.map(event).collect()
-        }
-        _ if answer != ACCEPTED => vec![],
-        Call::Event { record } => vec![event(record)],
-        Call::Write { index, value } => vec![Event::Write {
-            index: *index,
-            value: *value,
-        }],
-        Call::Sample(sample) => vec![Event::Sample(*sample)],
-        // They neither set nor end a plan, and leave the real-time bits.
-        Call::Read { .. } | Call::ChassisOpened => vec![],
-        Call::PowerOn | Call::SetPlan { .. } => vec![],
+    /// Bank 4 59h bit 6, 59h bit 7, 5Ah bit 3.
+    fn ringing(subject: Subject, image: &Image) -> [bool; 3] {
+        let mut image = *image;
+        let bank_4 = Call::Write {
+            index: 0x4E,
+            value: 0x04,
+        };
+        assert_eq!((subject.call)(&mut image, &bank_4), (0, 0));
+        let [first, second] = [0x59, 0x5A].map(|index| {
+            let (answer, byte) = (subject.call)(&mut image, &Call::Read { index });
+            assert_eq!(answer, 0, "{index:02X}h of bank 4");
+            byte
+        });
+        [first & 0x40 != 0, first & 0x80 != 0, second & 0x08 != 0]
     }
 }
 
-/// The real-time bits of fans 1 to 3 on the bus: bank 4 59h bit 6, 59h bit 7, 5Ah
-/// bit 3.
-fn ringing(subject: Subject, image: &Image) -> [bool; 3] {
-    let mut image = *image;
-    let bank_4 = Call::Write {
-        index: 0x4E,
-        value: 0x04,
-    };
-    assert_eq!((subject.call)(&mut image, &bank_4), (0, 0));
-    let [first, second] = [0x59, 0x5A].map(|index| {
-        let (answer, byte) = (subject.call)(&mut image, &Call::Read { index });
-        assert_eq!(answer, 0, "{index:02X}h of bank 4");
-        byte
-    });
-    [first & 0x40 != 0, first & 0x80 != 0, second & 0x08 != 0]
-}
-
-/// Whether every bit that must be something is that.
-fn rings_as_due(subject: Subject, image: &Image, due: Due, seen: &mut Seen) -> bool {
-    if due == [None; 3] {
-        return true;
+/// What an accepted event did.
+fn act_of(event: Event) -> Act<3> {
+    match event {
+        Event::Write { index, value } => Act::Write { index, value },
+        Event::Sample(sample) => Act::Sample { u: sample.u },
+        Event::Read { .. } | Event::Chassis => Act::Other,
     }
-    let found = ringing(subject, image);
-    for (fan, bit) in due.into_iter().enumerate() {
-        match bit {
-            Some(true) => seen.rang[fan] += 1,
-            Some(false) => seen.silent[fan] += 1,
-            None => {}
-        }
-    }
-    (0..3).all(|fan| due[fan].unwrap_or(found[fan]) == found[fan])
-}
-
-/// The place of the first sample of a list that leaves a bit other than a plan in
-/// force says. States are not compared.
-fn first_broken_plan(
-    subject: Subject,
-    start: &Image,
-    calls: &[Call],
-    seen: &mut Seen,
-) -> Option<usize> {
-    let mut course = Course::from(start);
-    let mut found = *start;
-    calls.iter().position(|call| {
-        let due = course.call(call, seen);
-        (subject.call)(&mut found, call);
-        !rings_as_due(subject, &found, due, seen)
-    })
-}
-
-/// Holds a list of calls to its plans in force and to `reference`.
-fn hold_plans(subject: Subject, start: &Image, calls: &[Call], origin: &str, seen: &mut Seen) {
-    if first_broken_plan(subject, start, calls, seen).is_some() {
-        let list = shrunk(subject, start, calls);
-        let words: Vec<String> = list.iter().map(in_words).collect();
-        let words = words.join("\n");
-        panic!("{origin}: a plan in force is broken\nstart:\n{start:02X?}\n{words}");
-    }
-    hold(subject, start, calls, origin);
-}
-
-pub fn breaks_a_plan(subject: Subject, start: &Image, calls: &[Call]) -> bool {
-    first_broken_plan(subject, start, calls, &mut Seen::default()).is_some()
-}
-
-/// The calls that are left of a list that breaks a plan.
-pub fn shrunk(subject: Subject, start: &Image, calls: &[Call]) -> Vec<Call> {
-    let fails = |calls: &[Call]| first_broken_plan(subject, start, calls, &mut Seen::default());
-    shrink(&fails, calls)
 }
 
 // ---- Random lists, aimed at the plans in force
@@ -333,23 +178,6 @@ fn aimed_sample(in_force: &InForce, rng: &mut Rng) -> Sample {
     sample
 }
 
-/// Holds the list of each seed to what the plans in force say; what is to be seen
-/// is seen `least` times.
-fn hold_lists(
-    subject: Subject,
-    seeds: Range<u64>,
-    list: impl Fn(u64) -> (Image, Vec<Call>),
-    least: u64,
-) {
-    let mut seen = Seen::default();
-    for seed in seeds {
-        let (start, calls) = list(seed);
-        hold_plans(subject, &start, &calls, &format!("seed {seed}"), &mut seen);
-    }
-    println!("{} checks, {seen:?}", seen.checks());
-    assert!(seen.enough(least), "{seen:?}");
-}
-
 #[test]
 fn a_plan_in_force_rings_exactly_from_its_product_on() {
     hold_lists(LIBRARY, 0..2_000, |seed| aimed_list(seed, 200), 1_000);
@@ -404,7 +232,7 @@ fn ring_at_their_products(start: &Image, plans: [u32; 3], next: &Call) -> ([bool
         let u = products.map(|product| product - below);
         let sample = Call::Sample(Sample { u, ..CALM });
         assert_eq!((LIBRARY.call)(&mut image, &sample), (0, 0));
-        ringing(LIBRARY, &image)
+        Expected::ringing(LIBRARY, &image)
     });
     let exact = from_fn(|fan| !rings[0][fan] && rings[1][fan]);
     (exact, course.in_force)
@@ -425,10 +253,10 @@ fn a_write_ends_a_plan_exactly_when_the_fan_no_longer_rings_by_it() {
         let (exact, in_force) = ring_at_their_products(&start, plans, &write);
         for fan in 0..3 {
             let stands = in_force.plans[fan].is_some();
-            let told = || format!("{} in bank {bank}, {plans:?} rpm", in_words(&write));
+            let told = || format!("{} in bank {bank}, {plans:?} rpm", write.in_words());
             assert_eq!(exact[fan], stands, "fan {}: {}", fan + 1, told());
             ended[fan] += u32::from(!stands);
-            stood[fan] += u32::from(stands && holds_plan(fan, index));
+            stood[fan] += u32::from(stands && Expected::holds_plan(fan, index));
         }
     };
     for index in 0..=255 {

@@ -3,11 +3,13 @@
 use crate::accesses::starts;
 use crate::boundary;
 use crate::calls::{Expected, LIBRARY, WRAPPER};
+use crate::common::lists::Model;
+use crate::common::report::explain;
+use crate::common::rng::Rng;
 use crate::image::{near_power_on, power_on, random, state_in, Image, CHASSIS, LENGTH};
-use crate::report::explain;
-use crate::rng::Rng;
 use crate::samples::with_divisor;
-use reference::{cell, Monitor, Speed};
+use reference::w83782d::{cell, Monitor};
+use reference::Speed;
 
 #[derive(Clone, Copy, Debug, PartialEq, Eq)]
 pub struct Looks {
@@ -89,7 +91,7 @@ fn expected_temperature(monitor: &Monitor, sensor: u8) -> (u32, i16) {
 
 /// Through the boundary and through the wrapper; no byte of the image moves.
 fn hold(image: &Image, origin: &str) {
-    let expected = Expected::from(image).looks();
+    let expected = Expected::of(image).looks();
     for subject in [LIBRARY, WRAPPER] {
         let lent = *image;
         let alike = (subject.looks)(&lent) == expected && lent == *image;

@@ -8,6 +8,8 @@
 mod accesses;
 mod boundary;
 mod calls;
+#[path = "../common/mod.rs"]
+mod common;
 mod events;
 mod image;
 mod in_force;
@@ -16,7 +18,5 @@ mod plans;
 mod planted;
 mod readings;
 mod records;
-mod report;
-mod rng;
 mod samples;
 mod sequences;

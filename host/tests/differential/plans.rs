@@ -3,12 +3,12 @@
 use crate::accesses::starts;
 use crate::boundary;
 use crate::calls::{Call, LIBRARY, WRAPPER};
+use crate::common::report;
+use crate::common::rng::Rng;
 use crate::image::{in_bank, near_power_on, power_on, random, Image};
 use crate::readings::{speed_classes, COUNTS_PER_MINUTE};
-use crate::report;
-use crate::rng::Rng;
 use crate::samples::{calm_limits, CALM};
-use reference::{cell, Sample};
+use reference::w83782d::{cell, Sample};
 
 /// The first and the last speed, and refused ones beside and far beyond them.
 pub const ENDS_OF_SPEEDS: [u32; 6] = [

@@ -2,15 +2,17 @@
 //! list to the calls that show it. So silence elsewhere means something.
 
 use crate::boundary::Answer;
-use crate::calls::{first_disagreement, library, Call, CarryOut, Look, Subject, LIBRARY};
+use crate::calls::{library, Call, CarryOut, Look, Subject, LIBRARY};
+use crate::common::in_force::{self, breaks_a_plan};
+use crate::common::lists::first_disagreement;
+use crate::common::report::{explain, shrink};
 use crate::events::record_of;
 use crate::image::{power_on, Image, CHASSIS, SPARE};
-use crate::in_force::{self, aimed_list, breaks_a_plan};
+use crate::in_force::aimed_list;
 use crate::looks::{self, Looks};
-use crate::report::{explain, shrink};
 use crate::samples::with_divisor;
 use crate::sequences::{calls, start, AIMS};
-use reference::{cell, Event};
+use reference::w83782d::{cell, Event};
 
 /// Sensor 3's OVT output.
 const OVT_3: usize = 119;

@@ -1,7 +1,7 @@
 //! Plans and readings, through the boundary and through the wrapper.
 
 use crate::boundary;
-use crate::rng::Rng;
+use crate::common::rng::Rng;
 
 /// "1,350,000 / w"
 pub const COUNTS_PER_MINUTE: u32 = 1_350_000;
@@ -68,7 +68,7 @@ fn speeds_far_beyond_are_refused_alike() {
 }
 
 fn hold_millivolts(channel: u8, code: u8, r5: u32, r6: u32) {
-    let expected = reference::millivolts(channel, code, r5, r6);
+    let expected = reference::w83782d::millivolts(channel, code, r5, r6);
     let told = || format!("channel {channel}, code {code}, R5 {r5}, R6 {r6}");
     assert_eq!(
         boundary::millivolts(channel, code, r5, r6),
@@ -133,8 +133,16 @@ fn every_code_reads_alike_on_the_negative_rails_over_many_resistors() {
 #[test]
 fn every_pwm_byte_is_on_for_the_same_parts() {
     for x in 0..=255 {
-        assert_eq!(boundary::pwm_parts(x), reference::pwm_parts(x), "{x:02X}h");
-        assert_eq!(w83782d::pwm_parts(x), reference::pwm_parts(x), "{x:02X}h");
+        assert_eq!(
+            boundary::pwm_parts(x),
+            reference::w83782d::pwm_parts(x),
+            "{x:02X}h"
+        );
+        assert_eq!(
+            w83782d::pwm_parts(x),
+            reference::w83782d::pwm_parts(x),
+            "{x:02X}h"
+        );
     }
 }
 

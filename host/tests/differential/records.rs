@@ -1,9 +1,9 @@
 //! Event records, through the boundary and through the wrapper.
 
 use crate::boundary::records as boundary;
-use crate::rng::Rng;
+use crate::common::rng::Rng;
 use crate::samples::{any_sample, wrapped, HALF_DEGREES};
-use reference::{Event, Sample, RECORD_LENGTH};
+use reference::w83782d::{Event, Sample, RECORD_LENGTH};
 use w83782d::Record;
 
 /// Lengths that a buffer of 32 bytes must not have.
@@ -17,7 +17,7 @@ pub fn bytes(rng: &mut Rng, length: usize) -> Vec<u8> {
 
 fn hold_decode(record: &[u8]) {
     let lent = record.to_vec();
-    let expected = reference::decode(record).err().unwrap_or(0);
+    let expected = reference::w83782d::decode(record).err().unwrap_or(0);
     assert_eq!(boundary::decode(&lent), expected, "{record:02X?}");
     assert_eq!(lent, record);
     match Record::decode(record) {
@@ -98,7 +98,7 @@ fn random_records_decode_alike() {
 // ---- Record k of a log
 
 fn hold_record_at(log: &[u8], k: u64) {
-    let expected = reference::record_at(log, k);
+    let expected = reference::w83782d::record_at(log, k);
     let start = expected.map_or(u64::MAX, |_| 32 * k);
     assert_eq!(boundary::record_at(log, k), start, "{}: {k}", log.len());
     match w83782d::record_at(log, k) {
@@ -145,7 +145,7 @@ fn hold_writer(event: &Event, write: impl Fn(&mut [u8]) -> u8) -> Option<[u8; RE
         let lent = 16..16 + length;
         let mut expected = bytes(&mut Rng::new(length as u64), 16 + length + 16);
         let mut found = expected.clone();
-        let answer = reference::write_record(event, &mut expected[lent.clone()]);
+        let answer = reference::w83782d::write_record(event, &mut expected[lent.clone()]);
         assert_eq!(
             write(&mut found[lent.clone()]),
             answer,
@@ -190,7 +190,7 @@ fn hold_sample(sample: &Sample) {
     }
     // What is written decodes to what was recorded.
     if let Some(record) = record {
-        assert_eq!(reference::decode(&record), Ok(event));
+        assert_eq!(reference::w83782d::decode(&record), Ok(event));
         assert_eq!(boundary::decode(&record), 0);
     }
 }

@@ -2,12 +2,13 @@
 
 use crate::accesses::starts;
 use crate::boundary;
-use crate::calls::{step, Call, Expected, LIBRARY, WRAPPER};
+use crate::calls::{Call, Expected, LIBRARY, WRAPPER};
+use crate::common::lists::{step, Model};
+use crate::common::report;
+use crate::common::rng::Rng;
 use crate::image::{near_power_on, power_on, random, Image, CHASSIS, LENGTH};
 use crate::records::bytes;
-use crate::report;
-use crate::rng::Rng;
-use reference::{cell, Sample};
+use reference::w83782d::{cell, Sample};
 
 /// Half degrees at the ends of what is allowed, and of what a record can hold.
 pub const HALF_DEGREES: [i16; 12] = [
@@ -396,7 +397,7 @@ fn every_short_excursion_agrees() {
             start[cell(0, 0x40)] = 0x03;
             start[cell(0, 0x4E)] = bank;
             start[CHASSIS + 1..][..7].fill(flags);
-            let before = (Expected::from(&start), start);
+            let before = (Expected::of(&start), start);
             assert_eq!(
                 walk(&start, &before, &mut Vec::new(), 4),
                 18 + 18 * 18 + 18 * 18 * 18 + 18 * 18 * 18 * 18

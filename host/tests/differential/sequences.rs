@@ -1,13 +1,13 @@
 //! Random and adversarial lists of calls, each from its seed.
 
 use crate::calls::{Call, Subject, LIBRARY, WRAPPER};
+use crate::common::report::hold;
+use crate::common::rng::Rng;
 use crate::events::{damaged, record_of};
 use crate::image::{near_power_on, power_on, random, Image};
 use crate::plans::any_plan;
-use crate::report::hold;
-use crate::rng::Rng;
 use crate::samples::{any_sample, near_sample, ANCHORS};
-use reference::{Event, RECORD_LENGTH};
+use reference::w83782d::{Event, RECORD_LENGTH};
 
 /// What a list of calls is after.
 #[derive(Clone, Copy, Debug)]

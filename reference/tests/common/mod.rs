@@ -2,7 +2,8 @@
 //! the papers, apart from the program under test.
 #![allow(dead_code)]
 
-use reference::{Mark, Monitor, Sample};
+use reference::w83782d::{Monitor, Sample};
+use reference::Mark;
 
 /// A small generator with a fixed seed (xorshift, 64 bits).
 pub struct Rng(u64);

@@ -1,10 +1,10 @@
 //! Random events, and what the second program makes of them.
 #![allow(dead_code)]
 
-#[path = "../../../tests/differential/rng.rs"]
+#[path = "../../../tests/common/rng.rs"]
 pub mod rng;
 
-use reference::{write_record, Event, Sample, RECORD_LENGTH};
+use reference::w83782d::{write_record, Event, Sample, RECORD_LENGTH};
 use rng::Rng;
 
 /// The record of an event by the second program.

@@ -2,7 +2,7 @@
 
 use crate::common::rng::Rng;
 use crate::common::{any_event, any_sample, record};
-use reference::{Event, Monitor, Sample, RECORD_LENGTH};
+use reference::w83782d::{Event, Monitor, Sample, RECORD_LENGTH};
 
 /// Registers with a rule of their own, and those that say what a sample does.
 const RULED: [u8; 10] = [0x40, 0x41, 0x42, 0x3A, 0x43, 0x46, 0x47, 0x4B, 0x4C, 0x5D];

@@ -1,6 +1,6 @@
 //! The name that `replay` gives a register.
 
-use reference::{find, REGISTERS};
+use reference::w83782d::{find, REGISTERS};
 
 const RAILS: [&str; 7] = ["VCOREA", "VINR0", "+3.3V", "+5V", "+12V", "-12V", "-5V"];
 

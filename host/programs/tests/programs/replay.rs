@@ -5,7 +5,7 @@ use crate::common::rng::Rng;
 use crate::lines::lines;
 use crate::logs::{any_log, Log};
 use crate::program::{hold_text, replay, top, Feed};
-use reference::{Event, Monitor, RECORD_LENGTH};
+use reference::w83782d::{Event, Monitor, RECORD_LENGTH};
 use std::fs;
 
 /// Bytes that `replay` reads at a time, and the records in them.

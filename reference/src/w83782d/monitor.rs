@@ -1,12 +1,13 @@
 //! The monitor's state, bus write, bus read, reset and chassis opened.
 
+use super::map::{cell, find, Register, CELLS, POWER_ON, REGISTERS};
 use crate::answer::{ACCEPTED, NO_REGISTER, READ_ONLY};
-use crate::map::{cell, find, Register, CELLS, POWER_ON, REGISTERS};
+use crate::sensor::Mark;
 
-pub(crate) const CONFIGURATION: usize = cell(0, 0x40);
+pub(super) const CONFIGURATION: usize = cell(0, 0x40);
 const STATUS_2: usize = cell(0, 0x42);
 /// Interrupt status 41h, 42h.
-pub(crate) const STATUS: [usize; 2] = [cell(0, 0x41), STATUS_2];
+pub(super) const STATUS: [usize; 2] = [cell(0, 0x41), STATUS_2];
 const CHASSIS_CLEAR: usize = cell(0, 0x46);
 const DIVISOR_AND_VID: usize = cell(0, 0x47);
 const DEVICE_ID: usize = cell(0, 0x49);
@@ -17,14 +18,7 @@ const CHIP_ID: usize = cell(0, 0x58);
 const SENSOR_VALUE: [usize; 2] = [cell(1, 0x50), cell(2, 0x50)];
 const REAL_TIME_2: usize = cell(4, 0x5A);
 /// Real-time status 59h, 5Ah.
-pub(crate) const REAL_TIME: [usize; 2] = [cell(4, 0x59), REAL_TIME_2];
-
-/// "Each sensor is either armed or hot."
-#[derive(Clone, Copy, Debug, PartialEq, Eq)]
-pub enum Mark {
-    Armed,
-    Hot,
-}
+pub(super) const REAL_TIME: [usize; 2] = [cell(4, 0x59), REAL_TIME_2];
 
 /// The monitor's state. Every value of every field is allowed as a start.
 #[derive(Clone, Copy, Debug, PartialEq, Eq)]
@@ -115,7 +109,7 @@ impl Monitor {
 
     /// The byte that a read of this cell shows. Every rule uses it, never the
     /// cell.
-    pub(crate) fn shown(&self, cell: usize) -> u8 {
+    pub(super) fn shown(&self, cell: usize) -> u8 {
         let byte = self.registers[cell];
         match cell {
             // "40h bit 7 always reads 0."

@@ -1,54 +1,29 @@
 //! "Readings" of document 01.
 
+use super::map::cell;
+use super::monitor::Monitor;
+use super::sample::FAN_COUNT;
 use crate::answer::{ACCEPTED, NO_CHANNEL};
-use crate::map::cell;
-use crate::monitor::Monitor;
-use crate::sample::FAN_COUNT;
-
-/// "1,350,000 / (count x divisor)".
-pub(crate) const COUNTS_PER_MINUTE: u32 = 1_350_000;
+use crate::speed::Speed;
 
 /// The two low divisor bits of each fan: register and lowest bit. "47h: fan 2
 /// divisor 7-6, fan 1 divisor 5-4"; "4Bh: fan 3 divisor 7-6".
-pub(crate) const DIVISOR_LOW: [(usize, u32); 3] =
+pub(super) const DIVISOR_LOW: [(usize, u32); 3] =
     [(cell(0, 0x47), 4), (cell(0, 0x47), 6), (cell(0, 0x4B), 6)];
 
 /// The top divisor bit of each fan: register and bit. "5Dh: divisor top bits:
 /// fan 3, 2, 1 in 7, 6, 5".
-pub(crate) const DIVISOR_TOP: [(usize, u32); 3] =
+pub(super) const DIVISOR_TOP: [(usize, u32); 3] =
     [(cell(0, 0x5D), 5), (cell(0, 0x5D), 6), (cell(0, 0x5D), 7)];
-
-/// "Count 0 answers "too fast" and 255 "too slow", never a number."
-#[derive(Clone, Copy, Debug, PartialEq, Eq)]
-pub enum Speed {
-    Rpm(u32),
-    TooFast,
-    TooSlow,
-    /// Answer 7: "fan not 1 to 3".
-    Refused,
-}
-
-impl Speed {
-    /// The answer number: too fast and too slow are accepted.
-    pub fn answer(self) -> u8 {
-        match self {
-            Speed::Rpm(_) | Speed::TooFast | Speed::TooSlow => ACCEPTED,
-            Speed::Refused => NO_CHANNEL,
-        }
-    }
-}
 
 impl Monitor {
     /// "Speed takes the stored count and the divisor now set."
     pub fn speed(&self, fan: u8) -> Speed {
+        // "Fan not 1 to 3."
         let Some(fan) = place(fan) else {
             return Speed::Refused;
         };
-        match self.shown(FAN_COUNT + fan) {
-            0 => Speed::TooFast,
-            255 => Speed::TooSlow,
-            count => Speed::Rpm(rpm(count, self.divisor(fan))),
-        }
+        Speed::of(self.shown(FAN_COUNT + fan), self.divisor(fan))
     }
 
     /// The stored temperature of sensor 1 to 3 in half degrees: answer and
@@ -62,7 +37,7 @@ impl Monitor {
 
     /// "The divisor is 2 to the power k, k being three bits, the top one from
     /// 5Dh." `fan` 0 is fan 1.
-    pub(crate) fn divisor(&self, fan: usize) -> u32 {
+    pub(super) fn divisor(&self, fan: usize) -> u32 {
         let (low_cell, low_bit) = DIVISOR_LOW[fan];
         let (top_cell, top_bit) = DIVISOR_TOP[fan];
         let low = (self.shown(low_cell) >> low_bit) & 0x03;
@@ -72,17 +47,11 @@ impl Monitor {
 }
 
 /// Fan or sensor 1 to 3 as a place 0 to 2.
-pub(crate) fn place(number: u8) -> Option<usize> {
+pub(super) fn place(number: u8) -> Option<usize> {
     match number {
         1..=3 => Some(usize::from(number) - 1),
         _ => None,
     }
-}
-
-/// "For count 1 to 254 it is 1,350,000 / (count x divisor), nearest, halves up."
-fn rpm(count: u8, divisor: u32) -> u32 {
-    let per_turn = u32::from(count) * divisor;
-    (2 * COUNTS_PER_MINUTE + per_turn) / (2 * per_turn)
 }
 
 /// "Millivolts, nearest, halves away from zero, for code c": answer and

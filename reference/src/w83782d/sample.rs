@@ -1,8 +1,9 @@
 //! "What a sample does" of document 01.
 
+use super::map::cell;
+use super::monitor::{Monitor, CONFIGURATION, REAL_TIME, STATUS};
 use crate::answer::{ACCEPTED, BAD_TEMPERATURE, NOT_MONITORING};
-use crate::map::cell;
-use crate::monitor::{Mark, Monitor, CONFIGURATION, REAL_TIME, STATUS};
+use crate::sensor::{comparator_mark, two_times};
 
 /// "It stores seven codes, three temperatures and three fan counts."
 #[derive(Clone, Copy, Debug, PartialEq, Eq)]
@@ -21,7 +22,7 @@ pub struct Sample {
 
 impl Sample {
     /// Sensors 2 and 3 lie in "-256 to 255 half degrees".
-    pub(crate) fn temperatures_fit(&self) -> bool {
+    pub(super) fn temperatures_fit(&self) -> bool {
         [self.t2, self.t3].iter().all(|t| (-256..=255).contains(t))
     }
 }
@@ -37,8 +38,8 @@ const FAN_BIT: [u16; 3] = [6, 7, 11];
 const VOLTAGE: usize = cell(0, 0x20);
 const VOLTAGE_HIGH: usize = cell(0, 0x2B);
 const VOLTAGE_LOW: usize = cell(0, 0x2C);
-pub(crate) const FAN_COUNT: usize = cell(0, 0x28);
-pub(crate) const FAN_LIMIT: usize = cell(0, 0x3B);
+pub(super) const FAN_COUNT: usize = cell(0, 0x28);
+pub(super) const FAN_LIMIT: usize = cell(0, 0x3B);
 
 /// A temperature register: high byte, and the low byte whose bit 7 is the half
 /// degree. "Sensor 1 whole degrees; 2 and 3 nine bits, high byte and bit 7 of
@@ -199,7 +200,7 @@ impl Monitor {
     }
 
     /// The stored temperature in half degrees; `sensor` 0 is sensor 1.
-    pub(crate) fn value(&self, sensor: usize) -> i32 {
+    pub(super) fn value(&self, sensor: usize) -> i32 {
         self.half_degrees(VALUE[sensor])
     }
 
@@ -236,7 +237,7 @@ impl Monitor {
 
     /// "OVT, for sensors 2 and 3 each by its own 52h bit 1." `sensor` 0 is
     /// sensor 2.
-    pub(crate) fn ovt_interrupt_mode(&self, sensor: usize) -> bool {
+    pub(super) fn ovt_interrupt_mode(&self, sensor: usize) -> bool {
         self.shown(OVT_CONFIGURATION[sensor]) & 0x02 != 0
     }
 
@@ -261,30 +262,5 @@ impl Monitor {
             // above."
             self.ovt_mark[sensor] = comparator_mark(above);
         }
-    }
-}
-
-/// "In comparator mode hot means above at the last sample."
-fn comparator_mark(above: bool) -> Mark {
-    if above {
-        Mark::Hot
-    } else {
-        Mark::Armed
-    }
-}
-
-/// "Armed and above the over limit: latch, hot; hot and below hysteresis: latch,
-/// armed; one step a sample." Says whether a step was made.
-fn two_times(mark: &mut Mark, above: bool, below: bool) -> bool {
-    match *mark {
-        Mark::Armed if above => {
-            *mark = Mark::Hot;
-            true
-        }
-        Mark::Hot if below => {
-            *mark = Mark::Armed;
-            true
-        }
-        _ => false,
     }
 }

@@ -126,7 +126,7 @@ const fn registers() -> [Option<Register>; CELLS] {
 }
 
 /// Every cell at power-on; reserved cells 00h.
-pub(crate) const POWER_ON: [u8; CELLS] = power_on();
+pub(super) const POWER_ON: [u8; CELLS] = power_on();
 
 const fn power_on() -> [u8; CELLS] {
     let table = registers();

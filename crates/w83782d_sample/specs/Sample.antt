@@ -6,6 +6,7 @@ use lib.Bits.{bitOr}
 use lib.Dec.{eqb}
 use lib.ListN.{getD}
 use Rattle.bits.specs.Bits.{choose, word}
+use Rattle.bits.specs.Stores.{Store, _≔_, puts}
 use Rattle.sensor.specs.Sensor.{remote, statusOf, outputOf}
 use Rattle.sensor.specs.declared.Mark.{Mark}
 use Rattle.sensor.specs.declared.Status.{Status}
@@ -17,7 +18,7 @@ use Rattle.w83782d_registers.specs.Effects.{latches, remoteOf}
 use Rattle.w83782d_map.specs.Map.{atBank}
 use Rattle.w83782d_map.specs.Cells.{interruptStatus1, interruptStatus2, realTimeStatus2}
 use Rattle.w83782d_bus.specs.Bus.{State, state, Written, written}
-use Rattle.w83782d_sample.specs.Stored.{Store, _≔_, puts, storedReadings, sampleAnswer}
+use Rattle.w83782d_sample.specs.Stored.{storedReadings, sampleAnswer}
 use Rattle.w83782d_conditions.specs.Conditions.{isOutside, isAbove, isBelow, isSlow, statusMode, outputMode}
 
 -- ---- one step of each sensor

@@ -16,6 +16,7 @@ use lib.Signed.{ltZ}
 use Rattle.bits.specs.Bits.{bit, flagOf}
 use Rattle.bits.proofs.BitLaws.{or-bit}
 use Rattle.bits.proofs.Flags.{word-bit}
+use Rattle.bits.proofs.Stores.{lastOf, cellsOf, isOf}
 use Rattle.numbers.specs.TwosComplement.{half8, half9, holds, codeOf, levelOf, signedOf}
 use Rattle.analog.specs.Temperature.{nineBits, halfCodeOf, halfHigh, halfLow}
 use Rattle.numbers.proofs.twos_complement.Complement.{twos-complement-holds, code-lt}
@@ -39,7 +40,7 @@ use Rattle.w83782d_sample.specs.Sample.{Source, firstByte, secondByte, realTime
 use Rattle.w83782d_sample.specs.Sample.Source.{rail, sensor, fan, chassis}
 use Rattle.w83782d_claims.specs.BusClaims.{cellIn}
 use Rattle.w83782d_claims.specs.SampleClaims.{halvesIn, Stores, after, isBeside, isHotter, isColder, isSlower, holdsFor, flagAt, RealTime, FanRings, statusFor, outputFor, latchesFor, StatusOr, LatchesAfter}
-use Rattle.w83782d_claims.proofs.sample.Stores.{lastOf, cellsOf, isOf, stored-at, stored-other, accepted-state, left-at}
+use Rattle.w83782d_claims.proofs.sample.Stores.{stored-at, stored-other, accepted-state, left-at}
 use Rattle.w83782d_claims.proofs.sample.Answers.{in-range}
 
 -- ---- sensor 1 is a signed byte: -128 to 127

@@ -4,3 +4,4 @@ pub mod ChangeLaws
 pub mod Match
 pub mod Tables
 pub mod Flags
+pub mod Stores

@@ -4,3 +4,4 @@ pub mod Map
 pub mod Claims
 pub mod Fields
 pub mod FieldClaims
+pub mod Stores

@@ -19,14 +19,14 @@ use Rattle.sensor.specs.declared.Status.{Status}
 use Rattle.sensor.specs.declared.Output.{Output}
 use Rattle.w83782d_record.specs.declared.samples.Sample.{Sample}
 use Rattle.w83782d_map.specs.Map.{cells, bankAt, indexAt}
-use Rattle.w83782d_map.specs.Cells.{bankCell, beepControl1, beepControl2, busAddress, configuration, diodeSelection, fanCount, fanLimit, gpoControl, highLimit, interruptStatus1, interruptStatus2, lowByte, lowLimit, ovtProperty, pinControl, pwmClock, realTimeStatus2, remoteAddress, sensor1Hysteresis, sensor1Over, sensor1Value, sensorConfiguration, sensorHysteresis, sensorOver, smiMask1, smiMask2, vbatFanDivisor, voltage}
+use Rattle.w83782d_map.specs.Cells.{bankCell, beepControl1, beepControl2, busAddress, configuration, diodeSelection, fanCount, fanLimit, gpoControl, highLimit, interruptStatus1, interruptStatus2, lowByte, lowLimit, ovtProperty, pinControl, pwmClock, realTimeStatus1, realTimeStatus2, remoteAddress, sensor1Hysteresis, sensor1Over, sensor1Value, sensorConfiguration, sensorHysteresis, sensorOver, smiMask1, smiMask2, vbatFanDivisor, voltage}
 use Rattle.w83782d_registers.specs.Registers.{reachOf}
 use Rattle.w83782d_registers.specs.Effects.{remoteOf}
 use Rattle.w83782d_bus.specs.Bus.{State, Written, writeOf, readOf}
 use Rattle.w83782d_claims.specs.BusClaims.{Whole, cellIn, shownIn}
 use Rattle.w83782d_sample.specs.Stored.{sampledCode, sampledHalves, storedCount, isStopped}
 use Rattle.w83782d_conditions.specs.Conditions.{statusMode, outputMode}
-use Rattle.w83782d_sample.specs.Sample.{Source, firstByte, secondByte, realTimeStatus1, markOf, sampleOf}
+use Rattle.w83782d_sample.specs.Sample.{Source, firstByte, secondByte, markOf, sampleOf}
 use Rattle.w83782d_sample.specs.Sample.Source.{rail, sensor, fan, chassis}
 use Rattle.w83782d_readings.specs.Outputs.{smiOf}
 

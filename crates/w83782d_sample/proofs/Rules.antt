@@ -21,7 +21,7 @@ use Rattle.w83782d_record.specs.declared.samples.Sample.{Sample}
 use Rattle.w83782d_registers.specs.declared.latches.Latches.{Latches}
 use Rattle.w83782d_registers.specs.Effects.{remoteOf}
 use Rattle.w83782d_map.specs.Map.{cells}
-use Rattle.w83782d_map.specs.Cells.{interruptStatus1, interruptStatus2, realTimeStatus2}
+use Rattle.w83782d_map.specs.Cells.{interruptStatus1, interruptStatus2, realTimeStatus1, realTimeStatus2}
 use Rattle.w83782d_bus.specs.Bus.{state, written, sized}
 use Rattle.w83782d_sample.specs.Stored.{storedReadings, sampleAnswer}
 use Rattle.w83782d_sample.specs.StoredParts.{storedIn}
@@ -33,7 +33,7 @@ use Rattle.w83782d_conditions.specs.declared.Compared.{Compared}
 use Rattle.w83782d_conditions.specs.Conditions.{isOutside, isAbove, isSlow, outputMode, comparisonOf, comparedOf}
 use Rattle.w83782d_conditions.specs.ConditionParts.{comparedIn}
 use Rattle.w83782d_conditions.proofs.Rules.{not-one}
-use Rattle.w83782d_sample.specs.Sample.{realTimeStatus1, statusAt, outputAt, remoteAfter, statusRegisters, steppedLatches, sampleOf}
+use Rattle.w83782d_sample.specs.Sample.{statusAt, outputAt, remoteAfter, statusRegisters, steppedLatches, sampleOf}
 use Rattle.w83782d_sample.specs.SampleParts.{remoteStep, Evaluates}
 
 -- ---- the steps

@@ -6,6 +6,7 @@ use lib.Bits.{bitOr}
 use lib.Dec.{eqb}
 use lib.ListN.{getD}
 use Rattle.bits.specs.Bits.{choose, word}
+use Rattle.bits.specs.Stores.{Store, _≔_, puts}
 use Rattle.sensor.specs.Sensor.{remote, statusOf, outputOf}
 use Rattle.sensor.specs.declared.Mark.{Mark}
 use Rattle.sensor.specs.declared.Status.{Status}
@@ -14,10 +15,9 @@ use Rattle.sensor.specs.declared.Remote.{Remote}
 use Rattle.w83782d_record.specs.declared.samples.Sample.{Sample}
 use Rattle.w83782d_registers.specs.declared.latches.Latches.{Latches}
 use Rattle.w83782d_registers.specs.Effects.{latches, remoteOf}
-use Rattle.w83782d_map.specs.Map.{atBank}
-use Rattle.w83782d_map.specs.Cells.{interruptStatus1, interruptStatus2, realTimeStatus2}
+use Rattle.w83782d_map.specs.Cells.{interruptStatus1, interruptStatus2, realTimeStatus1, realTimeStatus2}
 use Rattle.w83782d_bus.specs.Bus.{State, state, Written, written}
-use Rattle.w83782d_sample.specs.Stored.{Store, _≔_, puts, storedReadings, sampleAnswer}
+use Rattle.w83782d_sample.specs.Stored.{storedReadings, sampleAnswer}
 use Rattle.w83782d_conditions.specs.Conditions.{isOutside, isAbove, isBelow, isSlow, statusMode, outputMode}
 
 -- ---- one step of each sensor
@@ -66,9 +66,6 @@ abbrev pub latchedByte : List ℕ → Latches → List Source → ℕ
 latchedByte rs l b = word (map (latchedBy rs l) b)
 
 -- ---- real-time bits set, then status latched: status or latched
-abbrev pub realTimeStatus1 : ℕ
-realTimeStatus1 = atBank 4 0x59
-
 abbrev pub statusStores : List ℕ → Latches → List Store
 statusStores rs l =
     (interruptStatus1 ≔ bitOr (getD rs interruptStatus1 0) (latchedByte rs l firstByte))

@@ -4,9 +4,10 @@ use mathlib.Core.List.{List, [], _∷_, _++_, map}
 use Prim.Native.Nat.{ℕ, _+_, _-_}
 use lib.Dec.{eqb}
 use lib.IntN.{ℤ, pos}
-use lib.ListN.{getD, set}
+use lib.ListN.{getD}
 use Rattle.answers.specs.Answers as answers
 use Rattle.bits.specs.Bits.{choose, isOn}
+use Rattle.bits.specs.Stores.{Store, _≔_, puts}
 use Rattle.bits.specs.declared.Bit.{Bit}
 use Rattle.bits.specs.declared.Bit.the-variants.{B4, B5, B6, B7}
 use Rattle.bits.specs.declared.fields.Place.{Place}
@@ -31,19 +32,6 @@ divisorPlaces f =
 
 abbrev pub divisorOf : List ℕ → ℕ → Divisor
 divisorOf rs f = divisorAt rs (divisorPlaces f)
-
--- ---- stores, one after another
-pub record Store : Type 0 where
-  pub cell : ℕ
-  pub byte : ℕ
-
-infixl 20 _≔_
-abbrev pub _≔_ : ℕ → ℕ → Store
-c ≔ b = record { cell = c; byte = b }
-
-abbrev pub puts : List ℕ → List Store → List ℕ
-puts rs [] = rs
-puts rs (w ∷ ws) = puts (set rs (w .cell) (w .byte)) ws
 
 -- ---- S-1: the readings that a sample stores, whole bytes. decision D-46
 abbrev pub sampledCode : Sample → ℕ → ℕ

@@ -3,13 +3,14 @@ use mathlib.Core.List.{List, [], _∷_, _++_, map}
 use Prim.Native.Nat.{ℕ, _+_}
 use lib.IntN.{ℤ}
 use Rattle.bits.specs.Bits.{choose}
+use Rattle.bits.specs.Stores.{_≔_, puts}
 use Rattle.bits.specs.declared.Bit.{Bit}
 use Rattle.bits.specs.declared.fields.Field.{Field}
 use Rattle.numbers.specs.TwosComplement.{half8, codeOf}
 use Rattle.analog.specs.Temperature.{halfCodeOf, halfHigh, halfLow}
 use Rattle.w83782d_record.specs.declared.samples.Sample.{Sample}
 use Rattle.w83782d_map.specs.Map.{fits}
-use Rattle.w83782d_sample.specs.Stored.{place, sampledCode, storedCount, rails, fans, puts, _≔_, storedReadings}
+use Rattle.w83782d_sample.specs.Stored.{place, sampledCode, storedCount, rails, fans, storedReadings}
 use Rattle.w83782d_map.specs.Cells.{fanCount, lowByte, sensor1Value, vbatFanDivisor, voltage}
 
 -- a divisor's field: two bits in one cell, the top one in 5Dh

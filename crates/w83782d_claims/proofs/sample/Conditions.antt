@@ -16,6 +16,7 @@ use lib.Signed.{ltZ}
 use Rattle.bits.specs.Bits.{bit, flagOf}
 use Rattle.bits.proofs.BitLaws.{or-bit}
 use Rattle.bits.proofs.Flags.{word-bit}
+use Rattle.bits.proofs.Stores.{lastOf, cellsOf, isOf}
 use Rattle.numbers.specs.TwosComplement.{half8, half9, holds, codeOf, levelOf, signedOf}
 use Rattle.analog.specs.Temperature.{nineBits, halfCodeOf, halfHigh, halfLow}
 use Rattle.numbers.proofs.twos_complement.Complement.{twos-complement-holds, code-lt}
@@ -27,7 +28,7 @@ use Rattle.sensor.specs.declared.Remote.{Remote}
 use Rattle.w83782d_record.specs.declared.samples.Sample.{Sample}
 use Rattle.w83782d_registers.specs.declared.latches.Latches.{Latches}
 use Rattle.w83782d_map.specs.Map.{cells}
-use Rattle.w83782d_map.specs.Cells.{bankCell, fanCount, fanLimit, highLimit, interruptStatus1, interruptStatus2, lowLimit, ovtProperty, realTimeStatus2, sensor1Hysteresis, sensor1Over, sensor1Value, voltage}
+use Rattle.w83782d_map.specs.Cells.{bankCell, fanCount, fanLimit, highLimit, interruptStatus1, interruptStatus2, lowLimit, ovtProperty, realTimeStatus1, realTimeStatus2, sensor1Hysteresis, sensor1Over, sensor1Value, voltage}
 use Rattle.w83782d_registers.specs.Registers.{isInterrupt}
 use Rattle.w83782d_registers.proofs.Cases.{both}
 use Rattle.w83782d_registers.specs.Effects.{latches, remoteOf}
@@ -35,11 +36,11 @@ use Rattle.w83782d_bus.specs.Bus.{State}
 use Rattle.w83782d_sample.specs.Stored.{sampledCode, sampledHalves, storedCount, readings, storedReadings}
 use Rattle.w83782d_conditions.specs.Conditions.{isOutside, isAbove, isBelow, isSlow, statusMode, outputMode}
 use Rattle.w83782d_conditions.proofs.Rules.{not-one}
-use Rattle.w83782d_sample.specs.Sample.{Source, firstByte, secondByte, realTimeStatus1, statusAt, outputAt, remoteAfter, condition, latchedBy, statusStores, latchedByte, steppedLatches, sampleOf}
+use Rattle.w83782d_sample.specs.Sample.{Source, firstByte, secondByte, statusAt, outputAt, remoteAfter, condition, latchedBy, statusStores, latchedByte, steppedLatches, sampleOf}
 use Rattle.w83782d_sample.specs.Sample.Source.{rail, sensor, fan, chassis}
 use Rattle.w83782d_claims.specs.BusClaims.{cellIn}
 use Rattle.w83782d_claims.specs.SampleClaims.{halvesIn, Stores, after, isBeside, isHotter, isColder, isSlower, holdsFor, flagAt, RealTime, FanRings, statusFor, outputFor, latchesFor, StatusOr, LatchesAfter}
-use Rattle.w83782d_claims.proofs.sample.Stores.{lastOf, cellsOf, isOf, stored-at, stored-other, accepted-state, left-at}
+use Rattle.w83782d_claims.proofs.sample.Stores.{stored-at, stored-other, accepted-state, left-at}
 use Rattle.w83782d_claims.proofs.sample.Answers.{in-range}
 
 -- ---- sensor 1 is a signed byte: -128 to 127

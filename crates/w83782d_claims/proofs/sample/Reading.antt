@@ -12,7 +12,9 @@ use lib.Bits.{bitAnd}
 use lib.Dec.{eqb, lit<, lit≤}
 use lib.ListN.{set}
 use Rattle.bits.specs.Bits.{bit, isOn, choose}
+use Rattle.bits.specs.Stores.{_≔_}
 use Rattle.bits.proofs.Every.{same-tests}
+use Rattle.bits.proofs.Stores.{puts-same}
 use Rattle.w83782d_registers.specs.declared.latches.Latches.{Latches}
 use Rattle.w83782d_map.specs.Map.{cells, presentAt}
 use Rattle.w83782d_map.specs.Cells.{bankSelect, configuration, interruptStatus1, interruptStatus2}
@@ -20,12 +22,11 @@ use Rattle.w83782d_map.proofs.Cells.{present-cell}
 use Rattle.w83782d_registers.specs.Registers.{cellOf, reachOf, shownOf}
 use Rattle.w83782d_registers.specs.Effects.{readLatches}
 use Rattle.w83782d_bus.specs.Bus.{State, state, readRegisters, Read, read, readOf}
-use Rattle.w83782d_sample.specs.Stored.{_≔_}
 use Rattle.w83782d_claims.specs.BusClaims.{Whole, shownIn, hasRule}
 use Rattle.w83782d_claims.proofs.bus.Reached.{read-answer, refused}
 use Rattle.w83782d_claims.proofs.bus.Frames.{shown-same, read-state, shown}
 use Rattle.w83782d_claims.specs.SampleClaims.{ruleless, Alike, ReadAlike}
-use Rattle.w83782d_claims.proofs.sample.Stored.{plain, Same, same, alike, puts-same, interrupt-same}
+use Rattle.w83782d_claims.proofs.sample.Stored.{plain, Same, same, alike, interrupt-same}
 
 -- ---- what a read leaves
 module _ (rs ts : List ℕ) (e : Same rs ts) where
@@ -34,8 +35,8 @@ module _ (rs ts : List ℕ) (e : Same rs ts) where
   registers-same c = go (eqb c interruptStatus1) (eqb c interruptStatus2)
     where
       go : (a b : Bool) → Same (choose (a || b) (set rs c 0) rs) (choose (a || b) (set ts c 0) ts)
-      go true b = puts-same ((c ≔ 0) ∷ []) rs ts e
-      go false true = puts-same ((c ≔ 0) ∷ []) rs ts e
+      go true b = puts-same cells ruleless ((c ≔ 0) ∷ []) rs ts e
+      go false true = puts-same cells ruleless ((c ≔ 0) ∷ []) rs ts e
       go false false = e
 
   latches-same : (l : Latches) (c : ℕ) → readLatches rs l c ≡ readLatches ts l c

@@ -2,21 +2,20 @@
 -- Assumes nothing.
 use mathlib.Core.Path.{_≡_, refl, ap, ap₂, sym, subst, _∙_}
 use mathlib.Core.Bool.{Bool, true, false, not, _&&_, true≢false, false≢true}
-use mathlib.Core.List.{List, [], _∷_}
-use Prim.Native.Nat.{ℕ, _+_, _-_, _*_, _<_, _≤_}
-use native.Mathlib.Decide.{ℕ-discrete, decLt}
-use native.Mathlib.Omega.{arith}
+use mathlib.Core.List.{List}
+use Prim.Native.Nat.{ℕ, _+_, _-_, _<_, _≤_}
+use native.Mathlib.Decide.{ℕ-discrete}
 use borrow.Author.Tests.{eqb-true, ltb-true, lt-ltb}
 use lib.Dec.{eqb, ltb, lit<, lit≤}
-use lib.ListN.{getD, length, set, length-set}
-use lib.Seq.{getD-set-same, getD-set-other, set-out}
-use Rattle.bits.specs.Bits.{bit, isOn, numberOf}
-use Rattle.bits.specs.Fields.{gatherOf}
+use lib.ListN.{getD}
+use Rattle.bits.specs.Bits.{bit, isOn}
 use Rattle.bits.specs.Map.{among}
+use Rattle.bits.specs.Stores.{Store, puts}
 use Rattle.bits.specs.declared.fields.Place.{Place}
-use Rattle.bits.proofs.BitLaws.{bit-none, number-lt, same-byte}
+use Rattle.bits.proofs.BitLaws.{bit-none, same-byte}
 use Rattle.bits.proofs.ChangeLaws.{and-left, and-right}
 use Rattle.bits.proofs.Every.{same-tests}
+use Rattle.bits.proofs.Stores.{isPlain, isRuled, areRuled, SameBut, puts-same, gather-same}
 use Rattle.fan.specs.Count.{valueOf, storedOf, fromBits}
 use Rattle.fan.specs.Divisors.{divisorAt}
 use Rattle.fan.specs.declared.Divisor.{Divisor}
@@ -28,7 +27,7 @@ use Rattle.w83782d_map.specs.Cells.{bankCell, configuration, fanCount, fanLimit
 use Rattle.w83782d_registers.specs.Registers.{isInterrupt}
 use Rattle.w83782d_registers.proofs.Cases.{both}
 use Rattle.w83782d_bus.specs.Bus.{State}
-use Rattle.w83782d_sample.specs.Stored.{Store, puts, none, divisorPlaces, divisorOf, storedCount, readings, storedReadings, sampleAnswer}
+use Rattle.w83782d_sample.specs.Stored.{none, divisorPlaces, divisorOf, storedCount, readings, storedReadings, sampleAnswer}
 use Rattle.w83782d_conditions.specs.Conditions.{halfLevelAt, isOutside, isAbove, isBelow, isSlow, statusMode, outputMode}
 use Rattle.w83782d_conditions.proofs.Rules.{not-one}
 use Rattle.w83782d_sample.specs.Sample.{statusAt, outputAt, remoteAfter, latchedBy, statusStores, statusRegisters, steppedLatches, sampleOf}
@@ -40,16 +39,13 @@ use Rattle.w83782d_claims.proofs.sample.Stores.{sample-answer, accepted
 
 -- ---- registers alike: a cell that rules name whole, and a bit that a rule names
 abbrev pub plain : ℕ → Bool
-plain c = ltb c cells && eqb (ruleless c) 0
+plain c = isPlain cells ruleless c
 
 abbrev ruled : ℕ → ℕ → Bool
-ruled c j = ltb c cells && not (isOn (ruleless c) j)
+ruled c j = isRuled cells ruleless c j
 
-pub record Same (rs ts : List ℕ) : Type 0 where
-  pub count : length rs ≡ cells
-  pub count′ : length ts ≡ cells
-  pub cell : (c : ℕ) → plain c ≡ true → getD rs c 0 ≡ getD ts c 0
-  pub bits : (c j : ℕ) → j < 8 → ruled c j ≡ true → bit (getD rs c 0) j ≡ bit (getD ts c 0) j
+abbrev pub Same : List ℕ → List ℕ → Type 0
+Same rs ts = SameBut cells ruleless rs ts
 
 is-off : (b : Bool) → not b ≡ true → b ≡ false
 is-off true e = absurd (false≢true e)
@@ -80,45 +76,14 @@ module _ (s t : State) (ws : Whole s) (wt : Whole t) (a : Alike s t) where
 pub alike : (s t : State) → Same (s .registers) (t .registers) → s .latches ≡ t .latches → Alike s t
 alike s t e l = record { bits = λ c j h hj n. e .bits c j hj (rw (lt-ltb c cells h, n)); latches = l }
 
--- ---- the same stores to both, of a whole cell or of a bit
-module _ (f : ℕ → ℕ) (rs ts : List ℕ) (k v c : ℕ) (l : length rs ≡ length ts) (e : f (getD rs c 0) ≡ f (getD ts c 0)) where
-  set-same : f (getD (set rs k v) c 0) ≡ f (getD (set ts k v) c 0)
-  set-same = go (ℕ-discrete c k) (decLt k (length rs))
-    where
-      go : Dec (c ≡ k) → Dec (k < length rs) → f (getD (set rs k v) c 0) ≡ f (getD (set ts k v) c 0)
-      go (no n) d = ap f (getD-set-other rs k c v 0 n) ∙ e ∙ sym (ap f (getD-set-other ts k c v 0 n))
-      go (yes q) (yes h) = rw q (ap f (getD-set-same rs k v 0 h ∙ sym (getD-set-same ts k v 0 (omega arith))))
-      go (yes q) (no h) = rw (set-out rs k v (omega arith), set-out ts k v (omega arith)) e
-
-pub puts-same : (ws : List Store) (rs ts : List ℕ) → Same rs ts → Same (puts rs ws) (puts ts ws)
-puts-same [] rs ts e = e
-puts-same (w ∷ ws) rs ts e =
-    let l : length rs ≡ length ts = e .count ∙ sym (e .count′) in
-    puts-same ws (set rs (w .cell) (w .byte)) (set ts (w .cell) (w .byte))
-    (record {
-      count = length-set rs (w .cell) (w .byte) ∙ e .count;
-      count′ = length-set ts (w .cell) (w .byte) ∙ e .count′;
-      cell = λ c p. set-same (λ n. n) rs ts (w .cell) (w .byte) c l (e .cell c p);
-      bits = λ c j hj p. set-same (λ n. bit n j) rs ts (w .cell) (w .byte) c l (e .bits c j hj p);
-    })
-
 -- ---- a divisor's places
 abbrev allRuled : List Place → Bool
-allRuled [] = true
-allRuled (p ∷ ps) = ruled (p .cell) (numberOf (p .bit)) && allRuled ps
+allRuled ps = areRuled cells ruleless ps
 
 module _ (rs ts : List ℕ) (e : Same rs ts) where
-  gather-same : (ps : List Place) → allRuled ps ≡ true → gatherOf rs ps ≡ gatherOf ts ps
-  unfolding gatherOf
-  gather-same [] h = refl
-  gather-same (p ∷ ps) h =
-      ap₂ (λ (a b : ℕ). a + 2 * b)
-      (e .bits (p .cell) (numberOf (p .bit)) (number-lt (p .bit)) (and-left (ruled (p .cell) (numberOf (p .bit))) (allRuled ps) h))
-      (gather-same ps (and-right (ruled (p .cell) (numberOf (p .bit))) (allRuled ps) h))
-
   divisor-same : (f : ℕ) → allRuled (divisorPlaces f) ≡ true → divisorOf rs f ≡ divisorOf ts f
   unfolding divisorAt
-  divisor-same f h = ap fromBits (gather-same (divisorPlaces f) h)
+  divisor-same f h = ap fromBits (gather-same cells ruleless rs ts e (divisorPlaces f) h)
 
   count-same : (x : Sample) (f : ℕ) → allRuled (divisorPlaces f) ≡ true → storedCount rs x f ≡ storedCount ts x f
   count-same x f h = ap (λ (d : Divisor). storedOf (getD (x .counts) (f - 1) none .0) (valueOf d)) (divisor-same f h)
@@ -129,7 +94,7 @@ module _ (rs ts : List ℕ) (e : Same rs ts) where
 
   stored-same : (x : Sample) → Same (storedReadings rs x) (storedReadings ts x)
   unfolding storedReadings
-  stored-same x = subst (λ (ws : List Store). Same (puts rs ws) (storedReadings ts x)) (sym (readings-same x)) (puts-same (readings ts x) rs ts e)
+  stored-same x = subst (λ (ws : List Store). Same (puts rs ws) (storedReadings ts x)) (sym (readings-same x)) (puts-same cells ruleless (readings ts x) rs ts e)
 
   answer-same : (x : Sample) → sampleAnswer rs x ≡ sampleAnswer ts x
   unfolding sampleAnswer ruleless bit
@@ -236,7 +201,7 @@ module _ (rs ts : List ℕ) (e : Same rs ts) where
 
   evaluation-same : (l : Latches) → Same (statusRegisters rs l) (statusRegisters ts l)
   unfolding statusRegisters
-  evaluation-same l = subst (λ (ws : List Store). Same (puts rs ws) (statusRegisters ts l)) (sym (statusStores-same l)) (puts-same (statusStores ts l) rs ts e)
+  evaluation-same l = subst (λ (ws : List Store). Same (puts rs ws) (statusRegisters ts l)) (sym (statusStores-same l)) (puts-same cells ruleless (statusStores ts l) rs ts e)
 
   stepped-same : (l : Latches) → steppedLatches rs l ≡ steppedLatches ts l
   unfolding steppedLatches

@@ -1,63 +1,25 @@
--- A list of stores, cell by cell: the last byte stored to a cell, or what it held; and what a sample leaves, in these terms.
+-- What a sample leaves in a cell: the last byte that it stores there, or what the cell held.
 -- Assumes nothing.
-use mathlib.Core.Path.{_≡_, refl, ap, sym, subst, _∙_}
-use mathlib.Core.Bool.{Bool, true, false}
-use mathlib.Core.List.{List, [], _∷_, map}
+use mathlib.Core.Path.{_≡_, refl, ap, sym, _∙_}
+use mathlib.Core.Bool.{false}
+use mathlib.Core.List.{List, [], _∷_}
 use mathlib.Core.Logic.{_≢_}
 use Prim.Native.Nat.{ℕ, _<_}
 use borrow.Author.Tests.{eqb-true, eqb-false}
 use lib.Dec.{eqb}
-use lib.ListN.{getD, set, length, length-set}
-use lib.Seq.{getD-set-same, getD-set-other}
-use Rattle.bits.specs.Bits.{choose}
+use lib.ListN.{getD, length}
 use Rattle.bits.specs.Map.{among}
 use Rattle.bits.proofs.BitLaws.{choose-ind}
 use Rattle.bits.proofs.Every.{same-tests}
+use Rattle.bits.proofs.Stores.{lastOf, puts-at, puts-length, cellsOf, isOf, puts-other, fewer}
 use Rattle.w83782d_record.specs.declared.samples.Sample.{Sample}
 use Rattle.w83782d_registers.specs.declared.latches.Latches.{Latches}
 use Rattle.w83782d_map.specs.Map.{cells, bankAt, indexAt}
 use Rattle.w83782d_bus.specs.Bus.{State, Written}
-use Rattle.w83782d_sample.specs.Stored.{Store, puts, readings, storedReadings, sampleAnswer}
+use Rattle.w83782d_sample.specs.Stored.{readings, storedReadings, sampleAnswer}
 use Rattle.w83782d_sample.specs.Sample.{statusStores, statusRegisters, steppedLatches, sampledState, sampleOf}
 use Rattle.w83782d_claims.specs.BusClaims.{cellIn}
 use Rattle.w83782d_claims.specs.SampleClaims.{after, touched, Frame}
-
--- ---- stores
-abbrev pub lastOf : List Store → ℕ → ℕ → ℕ
-lastOf [] c d = d
-lastOf (w ∷ ws) c d = lastOf ws c (choose (eqb c (w .cell)) (w .byte) d)
-
-set-at : (t : Bool) (rs : List ℕ) (k v c : ℕ) → eqb c k ≡ t → c < length rs → getD (set rs k v) c 0 ≡ choose t v (getD rs c 0)
-set-at true rs k v c e h = subst (λ (i : ℕ). getD (set rs i v) c 0 ≡ v) (eqb-true c k e) (getD-set-same rs c v 0 h)
-set-at false rs k v c e h = getD-set-other rs k c v 0 (eqb-false c k e)
-
-puts-at : (ws : List Store) (rs : List ℕ) (c : ℕ) → c < length rs → getD (puts rs ws) c 0 ≡ lastOf ws c (getD rs c 0)
-puts-at [] rs c h = refl
-puts-at (w ∷ ws) rs c h =
-    puts-at ws (set rs (w .cell) (w .byte)) c (rw length-set h)
-    ∙ ap (lastOf ws c) (set-at (eqb c (w .cell)) rs (w .cell) (w .byte) c refl h)
-
-puts-length : (ws : List Store) (rs : List ℕ) → length (puts rs ws) ≡ length rs
-puts-length [] rs = refl
-puts-length (w ∷ ws) rs = puts-length ws (set rs (w .cell) (w .byte)) ∙ length-set rs (w .cell) (w .byte)
-
--- ---- cells that no store names
-abbrev pub cellsOf : List Store → List ℕ
-cellsOf ws = map (λ w. w .cell) ws
-
-abbrev pub isOf : ℕ → List ℕ → Bool
-isOf c [] = false
-isOf c (k ∷ ks) = choose (eqb c k) true (isOf c ks)
-
-off : (t more : Bool) → choose t true more ≡ false → (t ≡ false) × (more ≡ false)
-off true more e = let z : true ≡ false = e in (cc, cc)
-off false more e = (refl, e)
-
-puts-other : (ws : List Store) (rs : List ℕ) (c : ℕ) → isOf c (cellsOf ws) ≡ false → getD (puts rs ws) c 0 ≡ getD rs c 0
-puts-other [] rs c e = refl
-puts-other (w ∷ ws) rs c e =
-    let o = off (eqb c (w .cell)) (isOf c (cellsOf ws)) e in
-    puts-other ws (set rs (w .cell) (w .byte)) c (o .1) ∙ getD-set-other rs (w .cell) c (w .byte) 0 (eqb-false c (w .cell) (o .0))
 
 -- ---- readings and statusStores
 pub stored-at : (rs : List ℕ) (x : Sample) (c : ℕ) → c < length rs → getD (storedReadings rs x) c 0 ≡ lastOf (readings rs x) c (getD rs c 0)
@@ -118,24 +80,6 @@ stores = 0 ∷ 1 ∷ 2 ∷ 3 ∷ 4 ∷ 5 ∷ 6 ∷ 7 ∷ 8 ∷ 9 ∷ 10 ∷ 33 �
 touched-cells : (c : ℕ) → c < cells → among touched (bankAt c) (indexAt c) ≡ isOf c stores
 unfolding touched
 touched-cells = same-tests cells (λ c. among touched (bankAt c) (indexAt c)) (λ c. isOf c stores) tt
-
-abbrev all-of : List ℕ → List ℕ → Bool
-all-of [] ts = true
-all-of (k ∷ ks) ts = choose (isOf k ts) (all-of ks ts) false
-
-on : (t more : Bool) → choose t more false ≡ true → (t ≡ true) × (more ≡ true)
-on true more e = (refl, e)
-on false more e = let z : false ≡ true = e in (cc, cc)
-
-not-it : (t : Bool) (c k : ℕ) (ts : List ℕ) → eqb c k ≡ t → isOf k ts ≡ true → isOf c ts ≡ false → t ≡ false
-not-it true c k ts q a n = let e : c ≡ k = eqb-true c k q in cc
-not-it false c k ts q a n = refl
-
-fewer : (ks ts : List ℕ) (c : ℕ) → all-of ks ts ≡ true → isOf c ts ≡ false → isOf c ks ≡ false
-fewer [] ts c a n = refl
-fewer (k ∷ ks) ts c a n =
-    let o = on (isOf k ts) (all-of ks ts) a in
-    simp (not-it (eqb c k) c k ts refl (o .0) n, fewer ks ts c (o .1) n)
 
 module _ (s : State) (x : Sample) where
   sampled-frame : Frame s (sampledState s x)

@@ -14,12 +14,13 @@ use Rattle.bits.specs.Bits.{bit, isOn, choose, flagOf}
 use Rattle.bits.specs.Map.{any, bank, Span, span, among}
 use Rattle.numbers.specs.TwosComplement.{half8, half9, signedOf}
 use Rattle.analog.specs.Temperature.{nineBits, outside}
+use Rattle.limits.specs.Limits.{lowByte, sensorHysteresis, sensorOver}
 use Rattle.sensor.specs.Sensor.{statusOf, outputOf}
 use Rattle.sensor.specs.declared.Status.{Status}
 use Rattle.sensor.specs.declared.Output.{Output}
 use Rattle.w83782d_record.specs.declared.samples.Sample.{Sample}
 use Rattle.w83782d_map.specs.Map.{cells, bankAt, indexAt}
-use Rattle.w83782d_map.specs.Cells.{bankCell, beepControl1, beepControl2, busAddress, configuration, diodeSelection, fanCount, fanLimit, gpoControl, highLimit, interruptStatus1, interruptStatus2, lowByte, lowLimit, ovtProperty, pinControl, pwmClock, realTimeStatus1, realTimeStatus2, remoteAddress, sensor1Hysteresis, sensor1Over, sensor1Value, sensorConfiguration, sensorHysteresis, sensorOver, smiMask1, smiMask2, vbatFanDivisor, voltage}
+use Rattle.w83782d_map.specs.Cells.{bankCell, beepControl1, beepControl2, busAddress, configuration, diodeSelection, fanCount, fanLimit, gpoControl, highLimit, interruptStatus1, interruptStatus2, lowLimit, ovtProperty, pinControl, pwmClock, realTimeStatus1, realTimeStatus2, remoteAddress, sensor1Hysteresis, sensor1Over, sensor1Value, sensorConfiguration, smiMask1, smiMask2, vbatFanDivisor, voltage}
 use Rattle.w83782d_registers.specs.Registers.{reachOf}
 use Rattle.w83782d_registers.specs.Effects.{remoteOf}
 use Rattle.w83782d_bus.specs.Bus.{State, Written, writeOf, readOf}

@@ -10,12 +10,13 @@ use lib.Dec.{ltb, eqb}
 use lib.ListN.{length, getD}
 use Rattle.bits.specs.Bits.{isOn, word}
 use Rattle.fan.specs.Count.{overLimit}
+use Rattle.limits.specs.Limits.{wholeLevelAt, halfLevelAt}
 use Rattle.sensor.specs.declared.Mode.{Mode}
 use Rattle.w83782d_map.specs.Map.{cells}
 use Rattle.w83782d_map.specs.Cells.{bankCell, fanCount, fanLimit, ovtProperty, sensor1Hysteresis, sensor1Over, sensor1Value}
 use Rattle.w83782d_registers.specs.Registers.{isInterrupt}
 use Rattle.w83782d_conditions.specs.declared.Comparison.{Comparison}
-use Rattle.w83782d_conditions.specs.Conditions.{isOutside, wholeLevelAt, halfLevelAt, isAbove, isBelow, isSlow, modeIf, statusMode, outputMode, comparisonOf, comparedOf}
+use Rattle.w83782d_conditions.specs.Conditions.{isOutside, isAbove, isBelow, isSlow, modeIf, statusMode, outputMode, comparisonOf, comparedOf}
 use Rattle.w83782d_conditions.specs.ConditionParts.{nothing, comparedIn}
 
 -- ---- conditions

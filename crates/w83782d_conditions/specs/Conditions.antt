@@ -1,17 +1,15 @@
 -- The conditions and the modes that a sample looks at, of the registers with the readings stored (rules S-5 to S-7, T-4, T-5, O-1).
 -- Rails are numbered 0 to 6, sensors and fans 1 to 3.
-use mathlib.Core.Bool.{Bool, true, false, not, _||_}
+use mathlib.Core.Bool.{Bool, true, false, not}
 use mathlib.Core.List.{List, [], _∷_}
-use Prim.Native.Nat.{ℕ, _+_, _*_}
+use Prim.Native.Nat.{ℕ}
 use lib.Dec.{ltb, eqb}
 use lib.ListN.{getD}
 use Rattle.bits.specs.Bits.{choose, isOn, word}
-use Rattle.fan.specs.Count.{overLimit}
-use Rattle.numbers.specs.TwosComplement.{half8, half9, levelOf}
-use Rattle.analog.specs.Temperature.{nineBits}
+use Rattle.limits.specs.Limits.{outsideAt, slowAt, wholeLevelAt, aboveAt, belowAt}
 use Rattle.sensor.specs.declared.Mode.{Mode}
 use Rattle.sensor.specs.declared.Mode.the-variants.{Comparator, Interrupt}
-use Rattle.w83782d_map.specs.Cells.{bankCell, fanCount, fanLimit, highLimit, lowByte, lowLimit, ovtProperty, sensor1Hysteresis, sensor1Over, sensor1Value, sensorHysteresis, sensorOver, voltage}
+use Rattle.w83782d_map.specs.Cells.{bankCell, fanCount, fanLimit, highLimit, lowLimit, ovtProperty, sensor1Hysteresis, sensor1Over, sensor1Value, voltage}
 use Rattle.w83782d_registers.specs.Registers.{isInterrupt}
 use Rattle.w83782d_conditions.specs.declared.Comparison.{Comparison}
 use Rattle.w83782d_conditions.specs.declared.Compared.{Compared}
@@ -20,23 +18,9 @@ use Rattle.w83782d_conditions.specs.declared.Compared.{Compared}
 
 -- house, S-5: above its high or below its low limit; equal is fine
 unfoldable pub isOutside : List ℕ → ℕ → Bool
-isOutside rs i = ltb (getD rs (highLimit i) 0) (getD rs (voltage i) 0) || ltb (getD rs (voltage i) 0) (getD rs (lowLimit i) 0)
+isOutside rs i = outsideAt rs (voltage i) (highLimit i) (lowLimit i)
 
--- temperatures as levels, which compare as the signed numbers do: a byte, and nine bits from a cell
-abbrev pub wholeLevelAt : List ℕ → ℕ → ℕ
-wholeLevelAt rs c = levelOf half8 (getD rs c 0)
-
-abbrev pub halfLevelAt : List ℕ → ℕ → ℕ
-halfLevelAt rs c = levelOf half9 (nineBits (getD rs c 0) (getD rs (lowByte c) 0))
-
--- sensors 2 and 3, by the first cell of their bank
-abbrev pub aboveAt : List ℕ → ℕ → Bool
-aboveAt rs c = ltb (halfLevelAt rs (sensorOver c)) (halfLevelAt rs c)
-
-abbrev pub belowAt : List ℕ → ℕ → Bool
-belowAt rs c = ltb (halfLevelAt rs c) (halfLevelAt rs (sensorHysteresis c))
-
--- S-6: above its over limit
+-- S-6: above its over limit; sensors 2 and 3 by the first cell of their bank
 unfoldable pub isAbove : List ℕ → ℕ → Bool
 isAbove rs n = choose (eqb n 1) (ltb (wholeLevelAt rs sensor1Over) (wholeLevelAt rs sensor1Value)) (aboveAt rs (bankCell n))
 
@@ -45,7 +29,7 @@ isBelow rs n = choose (eqb n 1) (ltb (wholeLevelAt rs sensor1Value) (wholeLevelA
 
 -- S-7
 unfoldable pub isSlow : List ℕ → ℕ → Bool
-isSlow rs f = overLimit (getD rs (fanCount f) 0) (getD rs (fanLimit f) 0)
+isSlow rs f = slowAt rs (fanCount f) (fanLimit f)
 
 -- ---- modes
 abbrev pub modeIf : Bool → Mode

@@ -29,22 +29,14 @@ sensor1Hysteresis = at 0x3A
 abbrev pub fanLimit : ℕ → ℕ
 fanLimit f = at 0x3A + f
 
--- ---- sensors 2 and 3: seven cells from 50h of the sensor's bank on
+-- ---- sensors 2 and 3: seven cells from 50h of the sensor's bank on. Its value (50h, 51h), hysteresis (53h, 54h) and over
+-- limit (55h, 56h) are named from the first of them by Limits.antt (limits)
 abbrev pub bankCell : ℕ → ℕ
 bankCell n = choose (eqb n 2) (atBank 1 0x50) (atBank 2 0x50)
 
--- from the first of them: 51h, 52h, 53h, 55h; a limit's low byte follows its high byte
-abbrev pub lowByte : ℕ → ℕ
-lowByte c = c + 1
-
+-- 52h
 abbrev pub sensorConfiguration : ℕ → ℕ
 sensorConfiguration c = c + 2
-
-abbrev pub sensorHysteresis : ℕ → ℕ
-sensorHysteresis c = c + 3
-
-abbrev pub sensorOver : ℕ → ℕ
-sensorOver c = c + 5
 
 -- ---- the others
 abbrev pub configuration : ℕ

@@ -17,8 +17,9 @@ use Rattle.fan.specs.declared.Divisor.{Divisor}
 use Rattle.fan.specs.declared.Undivided.{Undivided}
 use Rattle.numbers.specs.TwosComplement.{half8, codeOf}
 use Rattle.analog.specs.Temperature.{outside, halfCodeOf, halfHigh, halfLow}
+use Rattle.limits.specs.Limits.{lowByte}
 use Rattle.w83782d_record.specs.declared.samples.Sample.{Sample}
-use Rattle.w83782d_map.specs.Cells.{bankCell, configuration, fanCount, lowByte, pinControl, sensor1Value, vbatFanDivisor, vidFanDivisor, voltage}
+use Rattle.w83782d_map.specs.Cells.{bankCell, configuration, fanCount, pinControl, sensor1Value, vbatFanDivisor, vidFanDivisor, voltage}
 
 -- ---- S-2: a fan's divisor: fan 1 in 47h 5-4, fan 2 in 47h 7-6, fan 3 in 4Bh 7-6, the top bits in 5Dh 5, 6, 7
 abbrev pub place : ℕ → Bit → Place

@@ -8,10 +8,11 @@ use Rattle.bits.specs.declared.Bit.{Bit}
 use Rattle.bits.specs.declared.fields.Field.{Field}
 use Rattle.numbers.specs.TwosComplement.{half8, codeOf}
 use Rattle.analog.specs.Temperature.{halfCodeOf, halfHigh, halfLow}
+use Rattle.limits.specs.Limits.{lowByte}
 use Rattle.w83782d_record.specs.declared.samples.Sample.{Sample}
 use Rattle.w83782d_map.specs.Map.{fits}
 use Rattle.w83782d_sample.specs.Stored.{place, sampledCode, storedCount, rails, fans, storedReadings}
-use Rattle.w83782d_map.specs.Cells.{fanCount, lowByte, sensor1Value, vbatFanDivisor, voltage}
+use Rattle.w83782d_map.specs.Cells.{fanCount, sensor1Value, vbatFanDivisor, voltage}
 
 -- a divisor's field: two bits in one cell, the top one in 5Dh
 abbrev pub fieldOf : ℕ → Bit → Bit → Bit → Field

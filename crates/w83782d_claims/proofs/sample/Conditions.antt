@@ -3,7 +3,7 @@
 use mathlib.Core.Path.{_≡_, refl, ap, ap₂, _∙_}
 use mathlib.Core.Bool.{Bool, true, false}
 use mathlib.Core.List.{List, [], _∷_, map}
-use Prim.Native.Nat.{ℕ, zero, suc, _+_, _*_, _<_, _≤_, max}
+use Prim.Native.Nat.{ℕ, zero, suc, _+_, _<_, _≤_, max}
 use native.Mathlib.Omega.{arith}
 use borrow.Author.Tests.{lt-ltb}
 use mir.Val.{SFits}
@@ -12,15 +12,14 @@ use lib.Bits.{bitOr}
 use lib.Dec.{ltb, lit<, lit≤}
 use lib.IntN.{ℤ, pos, negsuc}
 use lib.ListN.{getD, length}
-use lib.Signed.{ltZ}
 use Rattle.bits.specs.Bits.{bit, flagOf}
 use Rattle.bits.proofs.BitLaws.{or-bit}
 use Rattle.bits.proofs.Flags.{word-bit}
 use Rattle.bits.proofs.Stores.{lastOf, cellsOf, isOf}
 use Rattle.numbers.specs.TwosComplement.{half8, half9, holds, codeOf, levelOf, signedOf}
 use Rattle.analog.specs.Temperature.{nineBits, halfCodeOf, halfHigh, halfLow}
-use Rattle.numbers.proofs.twos_complement.Complement.{twos-complement-holds, code-lt}
-use Rattle.analog.proofs.Halves.{nine-bits-hold, half-in, inside}
+use Rattle.numbers.proofs.twos_complement.Complement.{twos-complement-holds}
+use Rattle.limits.proofs.Levels.{level-above, level-below, nine-lt, nine-code}
 use Rattle.sensor.specs.Sensor.{remote}
 use Rattle.sensor.specs.declared.Status.{Status}
 use Rattle.sensor.specs.declared.Output.{Output}
@@ -53,22 +52,6 @@ byte-holds (negsuc n) f = lt-ltb n 128 (f .sfits)
 
 pub fits-byte : (x : Sample) → SFits w8 (x .sensor1) → Fits x
 fits-byte x f = byte-holds (x .sensor1) f
-
--- ---- levels compare as the signed numbers, and a number is given by its code
-module _ (h : ℕ) (z : ℤ) (c : ℕ) (e : holds h z ≡ true) (l : c < 2 * h) where
-  level-above : ltb (levelOf h c) (levelOf h (codeOf h z)) ≡ ltZ (signedOf h c) z
-  level-above =
-      twos-complement-holds .levels h c (codeOf h z) l (code-lt h z e) ∙ ap (ltZ (signedOf h c)) (twos-complement-holds .back h z e)
-
-  level-below : ltb (levelOf h (codeOf h z)) (levelOf h c) ≡ ltZ z (signedOf h c)
-  level-below =
-      twos-complement-holds .levels h (codeOf h z) c (code-lt h z e) l ∙ ap (λ (y : ℤ). ltZ y (signedOf h c)) (twos-complement-holds .back h z e)
-
-nine-lt : (high low : ℕ) → high < 256 → low < 256 → nineBits high low < 512
-nine-lt high low h l = omega arith
-
-nine-code : (z : ℤ) → holds half9 z ≡ true → nineBits (halfHigh (halfCodeOf z)) (halfLow (halfCodeOf z)) ≡ codeOf half9 z
-nine-code z e = rw (← half-in z (codeOf half9 z) (inside z e) refl) (nine-bits-hold .bytes (codeOf half9 z))
 
 module _ (s : State) (x : Sample) (w : length (s .registers) ≡ cells) where
   abbrev t : List ℕ

@@ -19,6 +19,7 @@ use Rattle.bits.proofs.Stores.{isPlain, isRuled, areRuled, SameBut, puts-same, 
 use Rattle.fan.specs.Count.{valueOf, storedOf, fromBits}
 use Rattle.fan.specs.Divisors.{divisorAt}
 use Rattle.fan.specs.declared.Divisor.{Divisor}
+use Rattle.limits.specs.Limits.{halfLevelAt}
 use Rattle.sensor.specs.declared.Status.{Status}
 use Rattle.w83782d_record.specs.declared.samples.Sample.{Sample}
 use Rattle.w83782d_registers.specs.declared.latches.Latches.{Latches}
@@ -28,7 +29,7 @@ use Rattle.w83782d_registers.specs.Registers.{isInterrupt}
 use Rattle.w83782d_registers.proofs.Cases.{both}
 use Rattle.w83782d_bus.specs.Bus.{State}
 use Rattle.w83782d_sample.specs.Stored.{none, divisorPlaces, divisorOf, storedCount, readings, storedReadings, sampleAnswer}
-use Rattle.w83782d_conditions.specs.Conditions.{halfLevelAt, isOutside, isAbove, isBelow, isSlow, statusMode, outputMode}
+use Rattle.w83782d_conditions.specs.Conditions.{isOutside, isAbove, isBelow, isSlow, statusMode, outputMode}
 use Rattle.w83782d_conditions.proofs.Rules.{not-one}
 use Rattle.w83782d_sample.specs.Sample.{statusAt, outputAt, remoteAfter, latchedBy, statusStores, statusRegisters, steppedLatches, sampleOf}
 use Rattle.w83782d_sample.specs.Sample.Source.{sensor}

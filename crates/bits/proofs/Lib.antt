@@ -1,6 +1,7 @@
 pub mod Every
 pub mod BitLaws
 pub mod ChangeLaws
+pub mod Sets
 pub mod Match
 pub mod Tables
 pub mod Flags

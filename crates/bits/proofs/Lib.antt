@@ -4,4 +4,5 @@ pub mod ChangeLaws
 pub mod Sets
 pub mod Match
 pub mod Tables
+pub mod Restored
 pub mod Flags

@@ -1,7 +1,9 @@
 pub mod Every
 pub mod BitLaws
 pub mod ChangeLaws
+pub mod Sets
 pub mod Match
 pub mod Tables
+pub mod Restored
 pub mod Flags
 pub mod Stores

@@ -35,6 +35,10 @@ numberOf B5 = 5
 numberOf B6 = 6
 numberOf B7 = 7
 
+-- a number below 128 is in a set of them, given as two words of 64 bits; from 128 on none is
+abbrev pub inSet : ℕ → ℕ → ℕ → Bool
+inSet low high n = choose (ltb n 64) (isOn low n) (choose (ltb n 128) (isOn high (n - 64)) false)
+
 -- flags as a number, the first in bit 0
 abbrev pub flagOf : Bool → ℕ
 flagOf b = choose b 1 0

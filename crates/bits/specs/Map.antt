@@ -3,6 +3,7 @@ use mathlib.Core.Bool.{Bool, true, false, _&&_, _||_}
 use mathlib.Core.List.{List, [], _∷_}
 use Prim.Native.Nat.{ℕ, zero, suc}
 use lib.Dec.{leb, eqb}
+use lib.ListN.{getD}
 use Rattle.bits.specs.Bits.{choose}
 
 -- where a row lies: in one bank, or in any (its indexes ignore the bank)
@@ -56,3 +57,19 @@ powerOnValue = rowSays (λ r. r .powerOn) 0
 abbrev pub tabulate : ℕ → ℕ → (ℕ → ℕ) → List ℕ
 tabulate zero i f = []
 tabulate (suc n) i f = f i ∷ tabulate n (suc i) f
+
+-- ---- power-on and reset of n cells, by the power-on value of each and by those that a reset keeps
+
+abbrev pub powerOnCells : ℕ → (ℕ → ℕ) → List ℕ
+powerOnCells n powerOn = tabulate n 0 powerOn
+
+abbrev pub resetCells : ℕ → (ℕ → ℕ) → (ℕ → Bool) → List ℕ → List ℕ
+resetCells n powerOn kept rs = tabulate n 0 (λ c. choose (kept c) (getD rs c 0) (powerOn c))
+
+-- both by one loop: a reset keeps some cells
+abbrev pub restoredCell : (ℕ → ℕ) → (ℕ → Bool) → Bool → ℕ → ℕ → ℕ
+restoredCell powerOn kept true c old = choose (kept c) old (powerOn c)
+restoredCell powerOn kept false c old = powerOn c
+
+abbrev pub restoredCells : ℕ → (ℕ → ℕ) → (ℕ → Bool) → Bool → List ℕ → List ℕ
+restoredCells n powerOn kept keep rs = tabulate n 0 (λ c. restoredCell powerOn kept keep c (getD rs c 0))

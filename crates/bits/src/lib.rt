@@ -3,7 +3,7 @@
 ghost use mathlib.Core.Path.{_≡_};
 ghost use mathlib.Core.List.{[], _∷_};
 ghost use lib.ListN.{getD, set};
-ghost use Rattle.bits.specs.Bits.{bit, numberOf, isOn, mergeOf, change, changes, flagOf, word};
+ghost use Rattle.bits.specs.Bits.{bit, numberOf, isOn, inSet, mergeOf, change, changes, flagOf, word};
 
 pub mod bytes;
 pub mod fields;
@@ -51,6 +51,19 @@ pub fn is_on(byte: u8, b: Bit) -> bool
     ensures { λ r. ⌜ r ≡ isOn byte (numberOf b) ⌝ }
 {
     bit_of(byte, b) == 1
+}
+
+// Whether a number is in a set of numbers below 128, given as two words of bits: such a set costs no memory.
+pub fn in_set(low: u64, high: u64, number: usize) -> bool
+    ensures { λ r. ⌜ r ≡ inSet low high number ⌝ }
+{
+    if number < 64 {
+        return (low >> number) % 2 == 1;
+    }
+    if number < 128 {
+        return (high >> (number - 64)) % 2 == 1;
+    }
+    false
 }
 
 // The bits of the mask from the byte, every other bit from the old byte.

@@ -1,6 +1,6 @@
 -- The definitions of Bus.antt by their cases, over plain variables: what each branch of the code knows gives what it ensures.
 -- Assumes nothing.
-use mathlib.Core.Path.{_≡_, refl, sym, _∙_}
+use mathlib.Core.Path.{_≡_, sym, _∙_}
 use mathlib.Core.Bool.{Bool, true, false, not, _&&_}
 use mathlib.Core.List.{List, [], _∷_}
 use Prim.Native.Nat.{ℕ}
@@ -8,7 +8,8 @@ use borrow.Author.Tests.{eq-eqb, ne-eqb, not-true, not-false}
 use lib.Dec.{eqb}
 use lib.ListN.{length, set}
 use Rattle.bits.specs.Bits.{isOn, change, changes}
-use Rattle.w83782d_map.specs.Map.{cells, presentAt}
+use Rattle.bits.proofs.Restored as restored
+use Rattle.w83782d_map.specs.Map.{cells, presentAt, powerOnAt, keptAt}
 use Rattle.w83782d_map.specs.Cells.{configuration, interruptStatus1, interruptStatus2}
 use Rattle.w83782d_map.specs.Access.{writeAnswer, storedBits}
 use Rattle.w83782d_registers.specs.Registers.{reachOf, powerOnRegisters, resetRegisters, shownOf}
@@ -21,11 +22,11 @@ use Rattle.w83782d_bus.specs.Bus.{state, powerOn, writtenRegisters, writ
 -- ---- power-on and reset
 restored-reset : (rs : List ℕ) → restoredRegisters true rs ≡ resetRegisters rs
 unfolding restoredRegisters resetRegisters
-restored-reset rs = refl
+restored-reset = restored.restored-reset powerOnAt keptAt cells
 
 restored-power-on : (rs : List ℕ) → restoredRegisters false rs ≡ powerOnRegisters
 unfolding restoredRegisters powerOnRegisters
-restored-power-on rs = refl
+restored-power-on = restored.restored-power-on powerOnAt keptAt cells
 
 module _ (rs : List ℕ) (l : Latches) (e : l ≡ powerOnLatches) where
   pub power-on-short : (length rs ≡ cells → ⊥) → written (state rs l) 8 ≡ sized rs powerOnLatches (written powerOn 0)

@@ -7,9 +7,9 @@ use mathlib.Core.Logic.{⊎-elim}
 use Prim.Native.Nat.{ℕ, _+_, _-_, _<_, _≤_}
 use native.Mathlib.Decide.{decLt}
 use native.Mathlib.Omega.{arith}
-use borrow.Author.Tests.{ne-eqb, lt-ltb, le-ltb, lt-leb, ltb-true, not-true, not-false}
+use borrow.Author.Tests.{ne-eqb, le-ltb, lt-leb, ltb-true, not-true, not-false}
 use lib.Dec.{T, eqb, eqb→eq, ltb, ltb→lt, leb}
-use Rattle.bits.specs.Bits.{bit}
+use Rattle.bits.specs.Bits.{bit, inSet}
 use Rattle.bits.specs.Map.{Row, rowSays}
 use Rattle.bits.proofs.Every.{both, both-left, both-right, every-at, beq-same}
 use Rattle.bits.proofs.ChangeLaws.{and-left}
@@ -17,7 +17,6 @@ use Rattle.bits.proofs.Match.{NoKey, or-either, last-arm}
 use Rattle.w83782d_map.specs.Map.{at, atBank, bankAt, indexAt, cells, rows, keptByReset, presentAt, writableAt, powerOnAt, keptAt}
 use Rattle.w83782d_map.specs.Cells.{chassisClear, configuration}
 use Rattle.w83782d_map.specs.Access.{writeAnswer, storedBits}
-use Rattle.w83782d_map.specs.Parts.{inSet}
 
 -- ---- sets of cells
 abbrev pub present : ℕ → Bool
@@ -62,12 +61,6 @@ module _ (c : ℕ) (h : c < cells) where
       beq-same (kept c) (keptAt c) (both-right (unwritableSame c) (keptSame c) (both-right (presentSame c) (both (unwritableSame c) (keptSame c)) as-rows))
 
 -- ---- the functions of a cell, by their cases
-pub has-low : (s b c : ℕ) → c < 64 → eqb (bit s c) 1 ≡ inSet s b c
-has-low s b c h = simp (lt-ltb c 64 h)
-
-pub has-high : (s b c : ℕ) → 64 ≤ c → eqb (bit b (c - 64)) 1 ≡ inSet s b c
-has-high s b c h = simp (le-ltb c 64 h)
-
 pub present-out : (c : ℕ) → cells ≤ c → false ≡ presentAt c
 unfolding presentAt
 present-out c h = simp (le-ltb c cells h)

@@ -1,13 +1,12 @@
 // The register map of the W83782D: named cells, sets of cells and values by cell, and what the rows say of a cell: whether it is
 // a register, the answer to a write, the bits it stores, its power-on value, whether a reset keeps it.
 ghost use mathlib.Core.Path.{_≡_};
-ghost use Prim.Native.Nat.{_<_};
-ghost use Rattle.w83782d_map.specs.Map.{cells, presentAt, powerOnAt, keptAt};
+ghost use Rattle.w83782d_map.specs.Map.{presentAt, powerOnAt, keptAt};
 ghost use Rattle.w83782d_map.specs.Access.{writeAnswer, storedBits};
-ghost use Rattle.w83782d_map.specs.Parts.{inSet};
 use answers::ABSENT;
 use answers::ACCEPTED;
 use answers::READ_ONLY;
+use bits::in_set;
 
 // ---- Cells: bank 0 20h-5Fh, then banks 1, 2 and 4 from 50h up
 
@@ -162,17 +161,6 @@ const KEPT_BY_RESET: u64 = 0x0000_0100_0000_07ff;
 
 const KEPT_BY_RESET_BANKED: u64 = 0x0000_0003_0003;
 
-// Whether a cell is in a set.
-fn has(set: u64, banked: u64, cell: usize) -> bool
-    requires { ⌜ cell < cells ⌝ }
-    ensures { λ r. ⌜ r ≡ inSet set banked cell ⌝ }
-{
-    if cell < 64 {
-        return (set >> cell) % 2 == 1;
-    }
-    (banked >> (cell - 64)) % 2 == 1
-}
-
 // Whether a number is the cell of a register.
 pub fn is_present(cell: usize) -> bool
     ensures { λ r. ⌜ r ≡ presentAt cell ⌝ }
@@ -180,7 +168,7 @@ pub fn is_present(cell: usize) -> bool
     if CELLS <= cell {
         return false;
     }
-    has(PRESENT, PRESENT_BANKED, cell)
+    in_set(PRESENT, PRESENT_BANKED, cell)
 }
 
 // The answer to a write to a cell.
@@ -190,10 +178,10 @@ pub fn answer_to_write(cell: usize) -> u8
     if CELLS <= cell {
         return ABSENT;
     }
-    if !has(PRESENT, PRESENT_BANKED, cell) {
+    if !in_set(PRESENT, PRESENT_BANKED, cell) {
         return ABSENT;
     }
-    if has(UNWRITABLE, UNWRITABLE_BANKED, cell) {
+    if in_set(UNWRITABLE, UNWRITABLE_BANKED, cell) {
         return READ_ONLY;
     }
     ACCEPTED
@@ -263,5 +251,5 @@ pub fn is_kept_by_reset(cell: usize) -> bool
     if CELLS <= cell {
         return false;
     }
-    has(KEPT_BY_RESET, KEPT_BY_RESET_BANKED, cell)
+    in_set(KEPT_BY_RESET, KEPT_BY_RESET_BANKED, cell)
 }

@@ -1,7 +1,7 @@
 -- The definitions of Registers.antt and Parts.antt by their cases, over plain variables: what each branch of the code knows gives
 -- what it ensures. Assumes nothing.
-use mathlib.Core.Path.{_≡_, ap, sym, _∙_}
-use mathlib.Core.Bool.{Bool, true, false, not, _&&_, true≢false, false≢true}
+use mathlib.Core.Path.{_≡_, ap, _∙_}
+use mathlib.Core.Bool.{Bool, true, false, _&&_}
 use mathlib.Core.List.{List, [], _∷_}
 use mathlib.Core.Logic.{inl, inr, ⊎-elim}
 use Prim.Native.Nat.{ℕ, zero, suc, _+_, _-_, _<_, _≤_}
@@ -13,7 +13,8 @@ use lib.ListN.{length, getD, set}
 use Rattle.bits.specs.Bits.{isOn}
 use types.Run.{OneOf}
 use Rattle.bits.proofs.Match.{NoKey}
-use Rattle.bits.proofs.Tables.{tabulate-length, tabulate-at, over, over-next, over-at}
+use Rattle.bits.proofs.Tables.{over}
+use Rattle.bits.proofs.Restored as restored
 use Rattle.w83782d_map.specs.Map.{cells, powerOnAt, keptAt}
 use Rattle.w83782d_map.specs.Cells.{bankCell, bankSelect, chassisClear, chipId, configuration, deviceId, interruptStatus2, realTimeStatus2, vendorId, vidFanDivisor}
 use Rattle.w83782d_registers.specs.Registers.{cellOf, reachOf, isInterrupt, withChassis, vendorByte, shownOf}
@@ -63,32 +64,14 @@ module _ (b i : ℕ) where
         simp (le-ltb i 0x20 h, le-ltb 0x7F i k, lt-leb 0x60 i a, le-ltb i 0x50 l, ne-eqb b 0 n0, ne-eqb b 1 n1, ne-eqb b 2 n2, ne-eqb b 4 n4)
 
 -- ---- power-on and reset
-pub restored-all : (keep : Bool) (c old p : ℕ) → not keep ≡ true → p ≡ powerOnAt c → p ≡ restoredByte keep c old
-restored-all true c old p n e = absurd (false≢true n)
-restored-all false c old p n e = e
-
-pub restored-kept : (keep h : Bool) (c old : ℕ) → not keep ≡ false → h ≡ keptAt c → h ≡ true → old ≡ restoredByte keep c old
-restored-kept true h c old n e f = simp (← e, f)
-restored-kept false h c old n e f = absurd (true≢false n)
-
-pub restored-other : (keep h : Bool) (c old p : ℕ) → not keep ≡ false → h ≡ keptAt c → h ≡ false → p ≡ powerOnAt c → p ≡ restoredByte keep c old
-restored-other true h c old p n e f g = simp (← e, f) g
-restored-other false h c old p n e f g = absurd (true≢false n)
-
-pub restored-length : (keep : Bool) (rs : List ℕ) → length (restoredRegisters keep rs) ≡ cells
+pub restored-count : (keep : Bool) (rs : List ℕ) → length (restoredRegisters keep rs) ≡ cells
 unfolding restoredRegisters
-restored-length keep rs = tabulate-length cells 0 (λ c. restoredByte keep c (getD rs c 0))
-
-restored-at : (keep : Bool) (rs : List ℕ) (c : ℕ) → c < cells → getD (restoredRegisters keep rs) c 0 ≡ restoredByte keep c (getD rs c 0)
-unfolding restoredRegisters
-restored-at keep rs c h = tabulate-at cells (λ c. restoredByte keep c (getD rs c 0)) c h
+restored-count = restored.restored-count powerOnAt keptAt cells
 
 pub restore-next : (keep : Bool) (rs ts : List ℕ) (c r : ℕ) → length rs ≡ cells → c < cells → ts ≡ over (restoredRegisters keep rs) rs c
     → r ≡ restoredByte keep c (getD ts c 0) → set ts c r ≡ over (restoredRegisters keep rs) rs (suc c)
-restore-next keep rs ts c r hl hc et er =
-    let old : getD ts c 0 ≡ getD rs c 0 = ap (λ (l : List ℕ). getD l c 0) et ∙ over-at (restoredRegisters keep rs) rs c (omega (arith, restored-length keep rs)) (omega arith) in
-    let e : r ≡ getD (restoredRegisters keep rs) c 0 = er ∙ ap (restoredByte keep c) old ∙ sym (restored-at keep rs c hc) in
-    rw (et, e) (over-next (restoredRegisters keep rs) rs c (omega (arith, restored-length keep rs)) (omega arith))
+unfolding restoredRegisters
+restore-next = restored.restore-next powerOnAt keptAt cells
 
 pub restored-short : (keep : Bool) (rs : List ℕ) → (length rs ≡ cells → ⊥) → rs ≡ restoredIn keep rs
 restored-short keep rs n = simp (ne-eqb (length rs) cells n)

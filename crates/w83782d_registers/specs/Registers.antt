@@ -7,7 +7,7 @@ use lib.Bits.{bitAnd, bitOr}
 use lib.Dec.{ltb, leb, eqb}
 use lib.ListN.{getD}
 use Rattle.bits.specs.Bits.{choose, isOn}
-use Rattle.bits.specs.Map.{tabulate}
+use Rattle.bits.specs.Map.{powerOnCells, resetCells}
 use Rattle.w83782d_map.specs.Map.{cells, at, atBank, powerOnAt, keptAt}
 use Rattle.w83782d_map.specs.Cells.{bankCell, bankSelect, chassisClear, chipId, configuration, deviceId, interruptStatus2, realTimeStatus2, sensorConfiguration, vendorId, vidFanDivisor}
 
@@ -32,11 +32,11 @@ reachOf rs i = cellOf (bankOf rs) i
 -- ---- power-on and reset of the registers
 
 unfoldable pub powerOnRegisters : List ℕ
-powerOnRegisters = tabulate cells 0 powerOnAt
+powerOnRegisters = powerOnCells cells powerOnAt
 
 -- house, M-8: a reset restores all but 48h and the stored readings. decision D-08
 unfoldable pub resetRegisters : List ℕ → List ℕ
-resetRegisters rs = tabulate cells 0 (λ c. choose (keptAt c) (getD rs c 0) (powerOnAt c))
+resetRegisters rs = resetCells cells powerOnAt keptAt rs
 
 -- ---- commands
 

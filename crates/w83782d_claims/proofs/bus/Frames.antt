@@ -17,7 +17,7 @@ use Rattle.bits.specs.Bits.{bit, isOn, choose, mergeOf, change, changes}
 use Rattle.bits.proofs.BitLaws.{choose-ind, bit-lt, bit-on, bit-off, and-bit, or-bit, merge-kept, merge-given}
 use Rattle.bits.proofs.ChangeLaws.{and-left}
 use Rattle.bits.proofs.Every.{every-at, every-at2, same-tests}
-use Rattle.bits.proofs.Tables.{tabulate-length, tabulate-at}
+use Rattle.bits.proofs.Restored as restored
 use Rattle.sensor.specs.Sensor.{armed, releasedOf}
 use Rattle.sensor.specs.declared.Remote.{Remote}
 use Rattle.w83782d_registers.specs.declared.latches.Latches.{Latches}
@@ -137,11 +137,11 @@ cleared s v w = rw (register-46 .cell, register-46 .answer, changes-46 s v w, la
 -- ---- reset
 reset-at : (rs : List ℕ) (c : ℕ) → c < cells → getD (resetRegisters rs) c 0 ≡ choose (keptAt c) (getD rs c 0) (powerOnAt c)
 unfolding resetRegisters
-reset-at rs c h = tabulate-at cells (λ c. choose (keptAt c) (getD rs c 0) (powerOnAt c)) c h
+reset-at = restored.reset-at powerOnAt keptAt cells
 
 pub reset-count : (rs : List ℕ) → length (resetRegisters rs) ≡ cells
 unfolding resetRegisters
-reset-count rs = tabulate-length cells 0 (λ c. choose (keptAt c) (getD rs c 0) (powerOnAt c))
+reset-count = restored.reset-count powerOnAt keptAt cells
 
 reset-state : (s : State) (v : ℕ) → isOn v 7 ≡ true
     → writeOf s 0x40 v ≡ record { state = state (resetRegisters (s .registers)) (Rattle.w83782d_registers.specs.Effects.resetLatches (s .latches)); answer = 0 }

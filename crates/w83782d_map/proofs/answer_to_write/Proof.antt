@@ -6,14 +6,14 @@ use Rattle.w83782d_map.proofs.answer_to_write.Tie as tie
 returns : tie.Need-returns
 returns c = search (needs, answer-out)
 
-has-requires : tie.Need-has-requires
-has-requires c κs = search needs
+in-set-requires : tie.Need-in-set-requires
+in-set-requires c κs = search needs
 
 returns-2 : tie.Need-returns-2
 returns-2 c = search (needs, answer-absent)
 
-has-requires-2 : tie.Need-has-requires-2
-has-requires-2 c κs = search needs
+in-set-requires-2 : tie.Need-in-set-requires-2
+in-set-requires-2 c κs = search needs
 
 returns-3 : tie.Need-returns-3
 returns-3 c = search (needs, answer-read-only)
@@ -23,4 +23,4 @@ returns-4 c = search (needs, answer-accepted)
 
 pub answer-to-write-spec : {M : Type 1} → statement M
 answer-to-write-spec =
-    tie.close (tie.spec returns has-requires returns-2 has-requires-2 returns-3 returns-4)
+    tie.close (tie.spec returns in-set-requires returns-2 in-set-requires-2 returns-3 returns-4)

@@ -6,11 +6,11 @@ use Rattle.w83782d_map.proofs.is_present.Tie as tie
 returns : tie.Need-returns
 returns c = search (needs, present-out)
 
-has-requires : tie.Need-has-requires
-has-requires c κs = search needs
+in-set-requires : tie.Need-in-set-requires
+in-set-requires c κs = search needs
 
 returns-2 : tie.Need-returns-2
 returns-2 c = search (needs, present-in)
 
 pub is-present-spec : {M : Type 1} → statement M
-is-present-spec = tie.close (tie.spec returns has-requires returns-2)
+is-present-spec = tie.close (tie.spec returns in-set-requires returns-2)

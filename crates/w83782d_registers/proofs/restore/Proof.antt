@@ -7,7 +7,7 @@ use lib.ListN.{length, length-set}
 use Rattle.bits.proofs.Tables.{over, over-none, over-all}
 use Rattle.w83782d_map.specs.Map.{cells}
 use Rattle.w83782d_registers.specs.Parts.{restoredRegisters}
-use Rattle.w83782d_registers.proofs.Cases.{restore-next, restored-length, restored-short, restored-in}
+use Rattle.w83782d_registers.proofs.Cases.{restore-next, restored-count, restored-short, restored-in}
 use Rattle.w83782d_registers.proofs.restore.Statement.{statement}
 use Rattle.w83782d_registers.proofs.restore.Tie as tie
 
@@ -50,7 +50,7 @@ returns-2 : tie.Need-returns-2 Inv-loop μ-loop
 returns-2 c =
     let l = c .before .loop in
     let e : l .cell ≡ cells = omega arith in
-    l .inv .2 ∙ ap (over _ _) e ∙ over-all _ _ cells (restored-length _ _) (search needs) ∙ restored-in _ _ (search needs)
+    l .inv .2 ∙ ap (over _ _) e ∙ over-all _ _ cells (restored-count _ _) (search needs) ∙ restored-in _ _ (search needs)
 
 pub restore-spec : {M : Type 1} → statement M
 restore-spec =

@@ -18,6 +18,7 @@ use Rattle.limits.specs.Limits.{lowByte, sensorHysteresis, sensorOver}
 use Rattle.sensor.specs.Sensor.{statusOf, outputOf}
 use Rattle.sensor.specs.declared.Status.{Status}
 use Rattle.sensor.specs.declared.Output.{Output}
+use Rattle.status.specs.Claims.{UnmaskedBit}
 use Rattle.w83782d_record.specs.declared.samples.Sample.{Sample}
 use Rattle.w83782d_map.specs.Map.{cells, bankAt, indexAt}
 use Rattle.w83782d_map.specs.Cells.{bankCell, beepControl1, beepControl2, busAddress, configuration, diodeSelection, fanCount, fanLimit, gpoControl, highLimit, interruptStatus1, interruptStatus2, lowLimit, ovtProperty, pinControl, pwmClock, realTimeStatus1, realTimeStatus2, remoteAddress, sensor1Hysteresis, sensor1Over, sensor1Value, sensorConfiguration, smiMask1, smiMask2, vbatFanDivisor, voltage}
@@ -166,15 +167,15 @@ abbrev pub smiIn : State → Bool
 smiIn s = smiOf (s .registers) (s .latches .chassis)
 
 -- a bit of 41h or 42h, as a read shows them, that is set and not masked
-pub data UnmaskedBit (s : State) : Type 0 where
-  in41h : (j : ℕ) → j < 8 → bit (shownIn s interruptStatus1) j ≡ 1 → bit (cellIn s smiMask1) j ≡ 0 → UnmaskedBit s
-  in42h : (j : ℕ) → j < 8 → bit (shownIn s interruptStatus2) j ≡ 1 → bit (cellIn s smiMask2) j ≡ 0 → UnmaskedBit s
+abbrev pub UnmaskedIn : State → Type 0
+UnmaskedIn s =
+    UnmaskedBit (shownIn s interruptStatus1) (cellIn s smiMask1) (shownIn s interruptStatus2) (cellIn s smiMask2)
 
 -- I-4
 pub record Asserts (s : State) : Type 0 where
   pub enabled : bit (cellIn s configuration) 1 ≡ 1
   pub running : bit (cellIn s configuration) 3 ≡ 0
-  pub alarm : UnmaskedBit s
+  pub alarm : UnmaskedIn s
 
 abbrev pub SmiExactly : State → Type 0
 SmiExactly s = (smiIn s ≡ true) ↔ Asserts s

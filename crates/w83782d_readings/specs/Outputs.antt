@@ -1,13 +1,11 @@
 -- SMI and standing alarms, from the bytes that reads show (rules I-2, I-4 to I-6).
 use mathlib.Core.Bool.{Bool, not, _&&_}
 use mathlib.Core.List.{List}
-use Prim.Native.Nat.{ℕ, _+_, _-_}
-use lib.Bits.{bitAnd, bitOr}
-use lib.Count.{ones}
-use lib.Dec.{eqb}
+use Prim.Native.Nat.{ℕ}
 use lib.ListN.{getD}
 use Rattle.answers.specs.Answers as answers
 use Rattle.bits.specs.Bits.{choose, isOn}
+use Rattle.status.specs.Status.{anyUnmasked, alarmCount}
 use Rattle.w83782d_map.specs.Map.{fits}
 use Rattle.w83782d_map.specs.Cells.{configuration, interruptStatus1, interruptStatus2, smiMask1, smiMask2}
 use Rattle.w83782d_registers.specs.Registers.{withChassis}
@@ -21,20 +19,17 @@ status1 rs = getD rs interruptStatus1 0
 abbrev pub status2 : List ℕ → Bool → ℕ
 status2 rs chassis = withChassis (getD rs interruptStatus2 0) chassis
 
--- the bits of a status byte that its mask leaves: a mask bit at 1 keeps its status bit from SMI (7.6, 7.7). decision D-40
-abbrev pub unmasked : ℕ → ℕ → ℕ
-unmasked status mask = bitAnd status (255 - mask)
-
--- I-4: 40h bit 1 is 1, bit 3 is 0, and an unmasked bit of 41h or 42h is set
+-- I-4: 40h bit 1 is 1, bit 3 is 0, and an unmasked bit of 41h or 42h is set: a mask bit at 1 keeps its status bit from
+-- SMI (7.6, 7.7). decision D-40
 unfoldable pub smiOf : List ℕ → Bool → Bool
 smiOf rs chassis =
     isOn (getD rs configuration 0) 1
     && not (isOn (getD rs configuration 0) 3)
-    && not (eqb (bitOr (unmasked (status1 rs) (getD rs smiMask1 0)) (unmasked (status2 rs chassis) (getD rs smiMask2 0))) 0)
+    && anyUnmasked (status1 rs) (getD rs smiMask1 0) (status2 rs chassis) (getD rs smiMask2 0)
 
 -- I-6: the set bits of 41h and 42h
 unfoldable pub standingAlarms : List ℕ → Bool → ℕ
-standingAlarms rs chassis = ones (status1 rs) + ones (status2 rs chassis)
+standingAlarms rs chassis = alarmCount (status1 rs) (status2 rs chassis)
 
 -- ---- of any slice: one that is not the registers' 112 cells is refused as 8. decision D-01
 unfoldable pub outputsOf : List ℕ → Bool → Outputs

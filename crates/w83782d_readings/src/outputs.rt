@@ -6,6 +6,8 @@ ghost use Rattle.w83782d_readings.specs.Outputs.{smiOf, standingAlarms, 
 use bits::Bit;
 use bits::cell;
 use bits::is_on;
+use status::alarm_count;
+use status::any_unmasked;
 use w83782d_map::CELLS;
 use w83782d_map::CONFIGURATION;
 use w83782d_map::INTERRUPT_STATUS_1;
@@ -33,9 +35,9 @@ fn smi(s: &[u8], chassis: bool) -> bool
     if is_on(configuration, Bit::B3) {
         return false;
     }
-    let first = cell(s, INTERRUPT_STATUS_1) & !cell(s, SMI_MASK_1);
-    let second = with_chassis(cell(s, INTERRUPT_STATUS_2), chassis) & !cell(s, SMI_MASK_2);
-    (first | second) != 0
+    let first = cell(s, INTERRUPT_STATUS_1);
+    let second = with_chassis(cell(s, INTERRUPT_STATUS_2), chassis);
+    any_unmasked(first, cell(s, SMI_MASK_1), second, cell(s, SMI_MASK_2))
 }
 
 // The number of standing alarms: the set bits of 41h and 42h.
@@ -45,7 +47,7 @@ fn standing_alarms(s: &[u8], chassis: bool) -> u32
 {
     let first = cell(s, INTERRUPT_STATUS_1);
     let second = with_chassis(cell(s, INTERRUPT_STATUS_2), chassis);
-    u8::count_ones(first) + u8::count_ones(second)
+    alarm_count(first, second)
 }
 
 // SMI and the number of standing alarms; a slice that is not of 112 cells is refused as 8.

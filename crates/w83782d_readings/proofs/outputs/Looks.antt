@@ -3,14 +3,11 @@
 use mathlib.Core.Path.{_≡_}
 use mathlib.Core.Bool.{Bool, true, false, not}
 use mathlib.Core.List.{List}
-use Prim.Native.Nat.{ℕ, _+_, _-_, _^_, _<_, _≤_}
+use Prim.Native.Nat.{ℕ, _≤_}
 use borrow.Author.Tests.{eq-eqb, ne-eqb, not-true, not-false}
-use lib.Bits.{bitAnd, bitOr}
-use native.Mathlib.Omega.{arith}
-use lib.Count.{ones, ones-le}
-use lib.Dec.{eqb}
 use lib.ListN.{length, getD}
 use Rattle.bits.specs.Bits.{isOn}
+use Rattle.status.specs.Status.{anyUnmasked, alarmCount}
 use Rattle.w83782d_map.specs.Map.{cells}
 use Rattle.w83782d_map.specs.Cells.{configuration, interruptStatus1, interruptStatus2, smiMask1, smiMask2}
 use Rattle.w83782d_registers.specs.Registers.{withChassis}
@@ -28,18 +25,17 @@ module _ (rs : List ℕ) (chassis : Bool) (c : ℕ) (e : c ≡ getD rs configura
     unfolding smiOf
     smi-cleared t = simp (← e, ← f, not-false a n, ← g, t)
 
-    pub smi-passed : (x m y z k : ℕ) → b ≡ false → x ≡ getD rs interruptStatus1 0 → m ≡ getD rs smiMask1 0 → y ≡ getD rs interruptStatus2 0 → z ≡ withChassis y chassis → k ≡ getD rs smiMask2 0
-        → not (eqb (bitOr (bitAnd x (255 - m)) (bitAnd z (255 - k))) 0) ≡ smiOf rs chassis
+    pub smi-passed : (x m y z k : ℕ) (r : Bool) → b ≡ false → x ≡ getD rs interruptStatus1 0 → m ≡ getD rs smiMask1 0
+        → y ≡ getD rs interruptStatus2 0 → z ≡ withChassis y chassis → k ≡ getD rs smiMask2 0 → r ≡ anyUnmasked x m z k
+        → r ≡ smiOf rs chassis
     unfolding smiOf
-    smi-passed x m y z k t ex em ey ez ek = simp (← e, ← f, not-false a n, ← g, t, ← ex, ← em, ← ek, ← ey, ← ez)
+    smi-passed x m y z k r t ex em ey ez ek er =
+        simp (← e, ← f, not-false a n, ← g, t, ← ex, ← em, ← ek, ← ey, ← ez) er
 
-pub alarms-few : (x z : ℕ) → x < 2 ^ 8 → z < 2 ^ 8 → ones x + ones z ≤ 16
-alarms-few x z h k = omega (arith, ones-le 8 x h, ones-le 8 z k)
-
-pub alarms-counted : (rs : List ℕ) (chassis : Bool) (x y z : ℕ) → x ≡ getD rs interruptStatus1 0 → y ≡ getD rs interruptStatus2 0 → z ≡ withChassis y chassis
-    → ones x + ones z ≡ standingAlarms rs chassis
+pub alarms-counted : (rs : List ℕ) (chassis : Bool) (x y z n : ℕ) → x ≡ getD rs interruptStatus1 0
+    → y ≡ getD rs interruptStatus2 0 → z ≡ withChassis y chassis → (n ≡ alarmCount x z) × (n ≤ 16) → n ≡ standingAlarms rs chassis
 unfolding standingAlarms
-alarms-counted rs chassis x y z ex ey ez = rw (ez, ey, ex)
+alarms-counted rs chassis x y z n ex ey ez h = rw (← ey, ← ez, ← ex) (h .0)
 
 -- ---- both, of any slice
 module _ (rs : List ℕ) (chassis : Bool) where

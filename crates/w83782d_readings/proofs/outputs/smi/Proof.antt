@@ -24,14 +24,17 @@ cell-requires-2 c κs = search needs
 cell-requires-3 : tie.Need-cell-requires-3
 cell-requires-3 c κs = search needs
 
-cell-requires-4 : tie.Need-cell-requires-4
-cell-requires-4 c κs = search needs
-
 with-chassis-requires : tie.Need-with-chassis-requires
 with-chassis-requires c κs = search needs
 
+cell-requires-4 : tie.Need-cell-requires-4
+cell-requires-4 c κs = search needs
+
 cell-requires-5 : tie.Need-cell-requires-5
 cell-requires-5 c κs = search needs
+
+any-unmasked-requires : tie.Need-any-unmasked-requires
+any-unmasked-requires c κs = search needs
 
 returns-3 : tie.Need-returns-3
 returns-3 c = search (needs, smi-passed)
@@ -47,7 +50,8 @@ smi-spec =
     returns-2
     cell-requires-2
     cell-requires-3
-    cell-requires-4
     with-chassis-requires
+    cell-requires-4
     cell-requires-5
+    any-unmasked-requires
     returns-3)

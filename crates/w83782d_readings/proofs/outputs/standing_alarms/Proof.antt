@@ -1,7 +1,5 @@
 use borrow.Author.Needs.{needs}
-use native.Mathlib.Omega.{arith}
-use lib.Count.{ones-le}
-use Rattle.w83782d_readings.proofs.outputs.Looks.{alarms-counted, alarms-few}
+use Rattle.w83782d_readings.proofs.outputs.Looks.{alarms-counted}
 use Rattle.w83782d_readings.proofs.outputs.standing_alarms.Statement.{statement}
 use Rattle.w83782d_readings.proofs.outputs.standing_alarms.Tie as tie
 
@@ -14,13 +12,12 @@ cell-requires-2 c κs = search needs
 with-chassis-requires : tie.Need-with-chassis-requires
 with-chassis-requires c κs = search needs
 
-add-result : tie.Need-add-result
-add-result c =
-    omega (arith, ones-le 8 (c .before .before .cell .result) (c .before .before .cell .ok), ones-le 8 (c .with-chassis .result) (c .with-chassis .ok))
+alarm-count-requires : tie.Need-alarm-count-requires
+alarm-count-requires c κs = search needs
 
 returns : tie.Need-returns
-returns c = search (needs, alarms-counted, alarms-few)
+returns c = search (needs, alarms-counted)
 
 pub standing-alarms-spec : {M : Type 1} → statement M
 standing-alarms-spec =
-    tie.close (tie.spec cell-requires cell-requires-2 with-chassis-requires add-result returns)
+    tie.close (tie.spec cell-requires cell-requires-2 with-chassis-requires alarm-count-requires returns)

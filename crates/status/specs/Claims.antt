@@ -1,0 +1,16 @@
+-- What is claimed of two status bytes and their masks, bit by bit.
+use mathlib.Core.Path.{_≡_}
+use mathlib.Core.Bool.{true}
+use mathlib.Core.Logic.{_↔_}
+use Prim.Native.Nat.{ℕ, _<_}
+use Rattle.bits.specs.Bits.{bit}
+use Rattle.status.specs.Status.{anyUnmasked}
+
+-- a bit of the first or of the second status byte that is set and not masked
+pub data UnmaskedBit (s1 m1 s2 m2 : ℕ) : Type 0 where
+  inFirst : (j : ℕ) → j < 8 → bit s1 j ≡ 1 → bit m1 j ≡ 0 → UnmaskedBit s1 m1 s2 m2
+  inSecond : (j : ℕ) → j < 8 → bit s2 j ≡ 1 → bit m2 j ≡ 0 → UnmaskedBit s1 m1 s2 m2
+
+-- the test finds one exactly where there is one
+abbrev pub AnyUnmaskedExactly : Type 0
+AnyUnmaskedExactly = (s1 m1 s2 m2 : ℕ) → m1 < 256 → m2 < 256 → (anyUnmasked s1 m1 s2 m2 ≡ true) ↔ UnmaskedBit s1 m1 s2 m2

@@ -1,0 +1,20 @@
+// Two status bytes and their masks: whether a bit is set that its mask leaves, and how many bits are set.
+// Nothing here is of one chip.
+ghost use mathlib.Core.Path.{_≡_};
+ghost use Prim.Native.Nat.{_≤_};
+ghost use Rattle.status.specs.Status.{anyUnmasked, alarmCount};
+
+// Whether one of two status bytes has a bit set that its mask leaves.
+pub fn any_unmasked(first: u8, first_mask: u8, second: u8, second_mask: u8) -> bool
+    ensures { λ r. ⌜ r ≡ anyUnmasked first «first_mask» second «second_mask» ⌝ }
+{
+    ((first & !first_mask) | (second & !second_mask)) != 0
+}
+
+// The number of standing alarms: the set bits of two status bytes.
+pub fn alarm_count(first: u8, second: u8) -> u32
+    ensures count { λ r. ⌜ r ≡ alarmCount first second ⌝ }
+    ensures few { λ r. ⌜ r ≤ 16 ⌝ }
+{
+    u8::count_ones(first) + u8::count_ones(second)
+}

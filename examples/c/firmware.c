@@ -1,5 +1,5 @@
 /*
- * Firmware of a controller that stands in for the W83782D: start with or without a
+ * Firmware of a controller that takes the place of the W83782D: start with or without a
  * kept image, fan alarms, bus accesses, a sample a second, SMI and OVT, a log.
  * host/examples/firmware.rs is the same in Rust and prints the same lines.
  *
@@ -182,7 +182,7 @@ static bool start(void)
         if (!commission())
             return false;
     }
-    /* The pins don't outlast a restart: an alarm that stands is shown at once. */
+    /* The pins don't outlast a restart: an alarm that is on is shown at once. */
     return drive_pins();
 }
 

@@ -1,4 +1,4 @@
-//! Firmware of a controller that stands in for the W83782D: start with or without
+//! Firmware of a controller that takes the place of the W83782D: start with or without
 //! a kept image, fan alarms, bus accesses, a sample a second, SMI and OVT, a log.
 //! `examples/c/firmware.c` is the same in C and prints the same lines.
 //!
@@ -54,7 +54,7 @@ impl Firmware {
             index: 0,
             index_is_next: false,
         };
-        // The pins don't outlast a restart: an alarm that stands is shown at once.
+        // The pins don't outlast a restart: an alarm that is on is shown at once.
         firmware.drive_pins(board);
         Ok(firmware)
     }

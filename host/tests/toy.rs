@@ -212,9 +212,9 @@ fn a_disagreement_shrinks_to_the_calls_that_show_it() {
 fn an_explanation_tells_what_is_seen() {
     let list = [PLAN, note(7), Call::Sample { u: 305 }];
     let text = explain(FAULTY, &START, &list, "");
-    let told = "sample 305\n  limit: expected 98h, found 00h\n  \
+    let expected = "sample 305\n  limit: expected 98h, found 00h\n  \
                 real-time bit: expected 00h, found 01h\n  expected false,\n  found    true\n";
-    assert!(text.ends_with(told), "{text}");
+    assert!(text.ends_with(expected), "{text}");
 }
 
 /// A refused plan that is answered 0, and a bit that is stored and not seen.
@@ -229,9 +229,9 @@ fn an_answer_or_what_is_seen_is_enough_to_disagree() {
     };
     let list = [PLAN, Call::Plan { rpm: 0 }];
     assert_eq!(first_disagreement(all_accepted, &START, &list), Some(1));
-    let told = "plan 0 rpm\n  answer: expected 06, found 00\n";
+    let expected = "plan 0 rpm\n  answer: expected 06, found 00\n";
     let text = explain(all_accepted, &START, &list, "");
-    assert!(text.ends_with(told), "{text}");
+    assert!(text.ends_with(expected), "{text}");
     let silent = Subject {
         looks: |_| false,
         ..SOUND

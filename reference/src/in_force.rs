@@ -56,7 +56,7 @@ pub enum End {
 pub type Rewrites = fn(fan: u8, plan: Plan, index: u8, value: u8) -> bool;
 
 /// The plans in force on each fan; none where a list of calls starts. "A refused
-/// call ends nothing": only accepted calls are told.
+/// call ends nothing": only accepted calls are passed on.
 #[derive(Clone, Copy, Debug, PartialEq, Eq)]
 pub struct InForce<const FANS: usize> {
     pub plans: [Option<Plan>; FANS],

@@ -10,7 +10,7 @@
 //! call could have put there. A refused call leaves the state unchanged.
 //!
 //! The chip is a module: its registers, its state and what its calls do. Beside
-//! it stand the rules that another chip of the family would share: plans, plans
+//! it are the rules that another chip of the family would share: plans, plans
 //! in force, speed, the steps of a temperature sensor, answer numbers.
 
 mod in_force;

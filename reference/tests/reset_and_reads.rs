@@ -70,7 +70,7 @@ fn reset_keeps_readings_bus_address_and_chassis_and_drops_the_rest() {
     assert_eq!(peek(&m, 2, 0x50), 85);
     assert_eq!(peek(&m, 2, 0x51), 0x80);
     assert_eq!(peek(&m, 4, 0x59), 0x00);
-    // Only the chassis bit stands in 42h and 5Ah.
+    // Only the chassis bit is on in 42h and 5Ah.
     assert_eq!(peek(&m, 4, 0x5A), 0x10);
     assert_eq!(m.read(0x41), (0, 0x00));
     assert_eq!(m.read(0x42), (0, 0x10));

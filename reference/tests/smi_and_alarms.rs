@@ -70,12 +70,12 @@ fn each_bit_has_its_own_mask_bit() {
             let mut m = Monitor::power_on();
             assert_eq!(m.write(0x40, 0x02), 0);
             m.registers[at(0, status)] = 1 << bit;
-            let stands = shown >> bit & 1 == 1;
-            assert_eq!(m.smi(), stands, "{status:02X}h bit {bit}");
+            let on = shown >> bit & 1 == 1;
+            assert_eq!(m.smi(), on, "{status:02X}h bit {bit}");
             m.registers[at(0, mask)] = 1 << bit;
             assert!(!m.smi());
             m.registers[at(0, mask)] = !(1 << bit);
-            assert_eq!(m.smi(), stands);
+            assert_eq!(m.smi(), on);
         }
     }
 }

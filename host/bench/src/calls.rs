@@ -146,7 +146,7 @@ impl State for () {
     }
 }
 
-/// What a call returns: the answer number, and what stands beside it.
+/// What a call returns: the answer number, and what is beside it.
 pub trait Answer {
     fn parts(&self) -> (u8, u64);
 }

@@ -23,7 +23,7 @@ pub fn print(rows: &[Row], times: &[[Times; 2]], instructions: &Option<Vec<[u64;
             row.name,
             pair(Some(ns)),
             pair(counts),
-            judged(ns, counts, row.goal),
+            rated(ns, counts, row.goal),
         );
     }
     println!("(of a replay: a record)\n");
@@ -50,18 +50,18 @@ fn pair(numbers: Option<[f64; 2]>) -> String {
 }
 
 /// The goal, and whether the row keeps it.
-fn judged(ns: [f64; 2], counts: Option<[f64; 2]>, goal: Option<f64>) -> String {
+fn rated(ns: [f64; 2], counts: Option<[f64; 2]>, goal: Option<f64>) -> String {
     let Some(goal) = goal else {
         return format!("{:>5}", "-");
     };
     let within = |[library, second]: [f64; 2]| library <= goal * second;
-    let verdict = match (within(ns), counts.map_or(true, within)) {
+    let rating = match (within(ns), counts.map_or(true, within)) {
         (true, true) => "within",
         (true, false) => "OUTSIDE in instructions",
         (false, true) => "OUTSIDE in time",
         (false, false) => "OUTSIDE",
     };
-    format!("{goal:>5.2}  {verdict}")
+    format!("{goal:>5.2}  {rating}")
 }
 
 /// Which rows the machine was not quiet for.

@@ -13,7 +13,7 @@
 //! degrees of sensors 1 to 3 (sensor 1 whole, the others also with .5), then the
 //! undivided counts of fans 1 to 3. All are decimal.
 //!
-//! Records are made and judged by the proved library alone, so a script and its
+//! Records are made and decoded by the proved library alone, so a script and its
 //! log can't tell different events.
 
 mod event;
@@ -75,6 +75,6 @@ fn event_at(log: &[u8], n: u64) -> Result<Event, w83782d::Refusal> {
     let event = Event::of(&record);
     // The library says what a record holds, but not its numbers: what was taken
     // out of the bytes here must give them again.
-    assert_eq!(event.record(), Ok(record), "record {n} is told as {event}");
+    assert_eq!(event.record(), Ok(record), "record {n} reads as {event}");
     Ok(event)
 }

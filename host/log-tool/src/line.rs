@@ -118,7 +118,7 @@ fn half_degrees(sensor: u8, word: &str) -> Result<i16, String> {
     let magnitude = magnitude.parse().unwrap_or(u32::MAX);
     let twice = magnitude.saturating_mul(2).saturating_add(half);
     let twice = i16::try_from(twice).unwrap_or(i16::MAX);
-    // The sign stands before the whole number, so that -0.5 has one too.
+    // The sign is before the whole number, so that -0.5 has one too.
     Ok(if whole.starts_with('-') {
         -twice
     } else {
@@ -137,7 +137,7 @@ fn digits_only(word: &str) -> bool {
 }
 
 impl Display for Event {
-    /// The line of this event, in the one form that a log is told in.
+    /// The line of this event, in the one form that a log is written in.
     fn fmt(&self, f: &mut Formatter<'_>) -> Written {
         match self {
             Event::Write { index, value } => write!(f, "write {index:02X} {value:02X}"),

@@ -1,7 +1,7 @@
 //! Demand 3 of document 01 over lists of calls: while a plan is in force on a fan,
 //! each accepted sample leaves the fan's real-time bit 1 exactly when u >= (L+1)d.
 //!
-//! Which plans are in force is told by `reference::InForce` from the calls and
+//! Which plans are in force is known by `reference::InForce` from the calls and
 //! the second program's answers; the bit is what the bus of what is tested shows.
 
 use super::lists::{Listed, Model, Subject};

@@ -2,11 +2,11 @@
 
 use std::fmt::Debug;
 
-/// A call that can stand in a list.
+/// A call of a list.
 pub trait Listed: Clone {
     fn in_words(&self) -> String;
 
-    /// What may stand in its place in a failing list. Each must be simpler than it:
+    /// What may take its place in a failing list. Each must be simpler than it:
     /// the search goes on from there.
     fn simpler(&self) -> Vec<Self>;
 }

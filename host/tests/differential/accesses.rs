@@ -132,7 +132,7 @@ fn accepted_calls_tidy_flags_and_refused_ones_keep_them() {
 const BESIDE: usize = 64;
 
 /// An image of another length is refused before index, register, fan and speed
-/// are judged.
+/// are tested.
 #[test]
 fn an_image_of_another_length_is_answered_8_and_kept() {
     for length in [0, 1, 111, 112, 120, 127, 129, 256, 4096] {

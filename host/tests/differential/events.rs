@@ -224,7 +224,7 @@ fn logs_of_any_records_are_replayed_alike() {
 }
 
 /// Refused by the decoder (5 and 3) and by the monitor (1, 2, 3 and 4); the one
-/// with 4 stands behind a record that stops monitoring.
+/// with 4 comes after a record that stops monitoring.
 fn refused_records(rng: &mut Rng) -> Vec<(u8, Vec<u8>)> {
     let sample = near_sample(rng);
     let fits = Sample {

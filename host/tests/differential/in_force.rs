@@ -252,11 +252,11 @@ fn a_write_ends_a_plan_exactly_when_the_fan_no_longer_rings_by_it() {
         let write = Call::Write { index, value };
         let (exact, in_force) = ring_at_their_products(&start, plans, &write);
         for fan in 0..3 {
-            let stands = in_force.plans[fan].is_some();
-            let told = || format!("{} in bank {bank}, {plans:?} rpm", write.in_words());
-            assert_eq!(exact[fan], stands, "fan {}: {}", fan + 1, told());
-            ended[fan] += u32::from(!stands);
-            stood[fan] += u32::from(stands && Expected::holds_plan(fan, index));
+            let kept = in_force.plans[fan].is_some();
+            let words = || format!("{} in bank {bank}, {plans:?} rpm", write.in_words());
+            assert_eq!(exact[fan], kept, "fan {}: {}", fan + 1, words());
+            ended[fan] += u32::from(!kept);
+            stood[fan] += u32::from(kept && Expected::holds_plan(fan, index));
         }
     };
     for index in 0..=255 {

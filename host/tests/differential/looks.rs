@@ -199,9 +199,9 @@ fn an_image_of_another_length_shows_nothing() {
         let before = image.clone();
         assert_eq!(boundary::outputs(&image), (8, 0, 0), "length {length}");
         for number in 0..=255 {
-            let told = format!("length {length}, number {number}");
-            assert_eq!(boundary::speed(&image, number), (0x88, 0), "{told}");
-            assert_eq!(boundary::temperature(&image, number), (8, 0), "{told}");
+            let words = format!("length {length}, number {number}");
+            assert_eq!(boundary::speed(&image, number), (0x88, 0), "{words}");
+            assert_eq!(boundary::temperature(&image, number), (8, 0), "{words}");
         }
         assert_eq!(image, before);
     }

@@ -274,7 +274,7 @@ fn plan_refused_in_standby(image: &mut Image, call: &Call) -> Answer {
     }
 }
 
-fn speed_judged_before_fan(image: &mut Image, call: &Call) -> Answer {
+fn speed_tested_before_fan(image: &mut Image, call: &Call) -> Answer {
     match call {
         Call::SetPlan { rpm, .. } if *rpm == 0 || *rpm > 1_350_000 => (6, 0),
         _ => library(image, call),
@@ -365,7 +365,7 @@ fn every_planted_fault_is_found() {
         ("smallest_divisor_taken", smallest_divisor_taken),
         ("top_bit_banked", top_bit_banked),
         ("plan_refused_in_standby", plan_refused_in_standby),
-        ("speed_judged_before_fan", speed_judged_before_fan),
+        ("speed_tested_before_fan", speed_tested_before_fan),
         ("odd_flags_kept_by_plan", odd_flags_kept_by_plan),
         (
             "limit_cleared_by_refused_plan",

@@ -69,18 +69,18 @@ fn speeds_far_beyond_are_refused_alike() {
 
 fn hold_millivolts(channel: u8, code: u8, r5: u32, r6: u32) {
     let expected = reference::w83782d::millivolts(channel, code, r5, r6);
-    let told = || format!("channel {channel}, code {code}, R5 {r5}, R6 {r6}");
+    let words = || format!("channel {channel}, code {code}, R5 {r5}, R6 {r6}");
     assert_eq!(
         boundary::millivolts(channel, code, r5, r6),
         expected,
         "{}",
-        told()
+        words()
     );
     let wrapped = match w83782d::millivolts(channel, code, r5, r6) {
         Ok(value) => (0, value),
         Err(refusal) => (refusal.number(), 0),
     };
-    assert_eq!(wrapped, expected, "{}", told());
+    assert_eq!(wrapped, expected, "{}", words());
 }
 
 /// Ends of the range, the data sheet's pair, and numbers that fit only if their

@@ -48,7 +48,7 @@ fn every_kind_and_every_length_decodes_alike() {
 /// One byte of an empty record of each kind, to every value: where it may be
 /// other than zero, and where not.
 #[test]
-fn every_byte_of_a_record_is_judged_alike() {
+fn every_byte_of_a_record_is_decoded_alike() {
     for kind in 0..=5 {
         for at in 1..RECORD_LENGTH {
             for value in 0..=255 {
@@ -63,7 +63,7 @@ fn every_byte_of_a_record_is_judged_alike() {
 
 /// Each of sensors 2 and 3 through all 65,536 values, the other at each end.
 #[test]
-fn every_temperature_of_a_sample_is_judged_alike() {
+fn every_temperature_of_a_sample_is_decoded_alike() {
     for t in i16::MIN..=i16::MAX {
         for other in HALF_DEGREES {
             for [two, three] in [[t, other], [other, t]] {

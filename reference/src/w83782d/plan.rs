@@ -24,7 +24,7 @@ impl Monitor {
         ACCEPTED
     }
 
-    /// Replaces the bits of a mask, whose lowest bit stands at `bit`.
+    /// Replaces the bits of a mask, whose lowest bit is `bit`.
     fn set_bits(&mut self, (cell, bit): (usize, u32), mask: u8, value: u8) {
         let kept = self.registers[cell] & !(mask << bit);
         self.registers[cell] = kept | (value << bit);

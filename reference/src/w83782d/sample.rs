@@ -176,7 +176,7 @@ impl Monitor {
     }
 
     /// "Conditions: voltage above high or below low (equal is fine, house)." The
-    /// limits stand as "high, low limit of each voltage in that order".
+    /// limits are "high, low limit of each voltage in that order".
     fn voltage_outside(&self, channel: usize) -> bool {
         let code = self.shown(VOLTAGE + channel);
         let high = self.shown(VOLTAGE_HIGH + 2 * channel);

@@ -33,7 +33,7 @@ impl Expected {
                     expected.tell(format!("argument {}: too long for a speed", n + 1));
                 }
                 Number::Of(rpm) => expected.plan(rpm),
-                // Told as it was written.
+                // Printed as it was written.
                 Number::TooLarge => expected.tell_of(&[word, b" rpm"].concat(), REFUSED),
                 Number::None => expected.tell_of(
                     word,
@@ -221,7 +221,7 @@ fn what_is_no_speed_is_told_alike() {
     hold(&words.collect::<Vec<_>>(), "every byte");
 }
 
-/// Words of few characters: digits, and what stands beside them.
+/// Words of few characters: digits, and what comes beside them.
 #[test]
 fn random_words_are_answered_alike() {
     for seed in 0..40 {

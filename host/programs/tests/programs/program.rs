@@ -132,7 +132,7 @@ fn in_words(line: Option<&[u8]>) -> String {
 
 #[test]
 fn a_difference_is_told_with_its_place() {
-    for (found, told) in [
+    for (found, expected) in [
         ("a\nb\n", None),
         ("a\nc\n", Some(("line 1,", "'c\\n'"))),
         ("b\nb\n", Some(("line 0,", "'b\\n'"))),
@@ -143,8 +143,8 @@ fn a_difference_is_told_with_its_place() {
         ("a\nb\n\n", Some(("line 2,", "'\\n'"))),
     ] {
         let difference = first_difference(found.as_bytes(), b"a\nb\n");
-        assert_eq!(difference.is_some(), told.is_some(), "{found:?}");
-        if let (Some(difference), Some((place, line))) = (difference, told) {
+        assert_eq!(difference.is_some(), expected.is_some(), "{found:?}");
+        if let (Some(difference), Some((place, line))) = (difference, expected) {
             let found = format!("found    {line}");
             assert!(difference.starts_with(place), "{difference}");
             assert!(difference.ends_with(&found), "{difference}");

@@ -43,7 +43,7 @@ fn logs_of_accepted_records_are_told_alike() {
 }
 
 /// A log with a record that is refused, with each answer by turns. The records
-/// behind it are not told, though each is a good one.
+/// behind it are not printed, though each is a good one.
 fn refused_log(seed: u64) -> Vec<u8> {
     let mut rng = Rng::new(seed);
     let answer = 1 + (seed % 5) as u8;

@@ -1,5 +1,6 @@
-// The flags of an image: the chassis latch, sensor 1's mark, then status mark, OVT mark and asserted of sensors 2 and 3, and the
-// eight spare bytes behind them. A slice that is not an image of 128 bytes stays, and holds the latches of power-on. The eight flags go as one number: taken one by one they were half of a call's instructions.
+// The flags of an image: the chassis latch, sensor 1's mark, then status mark, OVT mark and asserted of sensors 2 and 3,
+// and the eight spare bytes behind them. A slice that is not an image of 128 bytes stays, and holds the latches of
+// power-on. The eight flags go as one number: one by one they were 54 instructions of a call, taken out and put back.
 ghost use mathlib.Core.Path.{_≡_};
 ghost use Prim.Native.Nat.{_≤_, _+_};
 ghost use lib.ListN.{length};

@@ -147,20 +147,13 @@ each-at f z [] k = sym z
 each-at f z (b ∷ bs) zero = refl
 each-at f z (b ∷ bs) (suc k) = each-at f z bs k
 
-each-length : (f : ℕ → ℕ) (bs : List ℕ) → length (eachByte f bs) ≡ length bs
-each-length f [] = refl
-each-length f (b ∷ bs) = ap suc (each-length f bs)
-
-pub normal-bytes : (bs : List ℕ) → AreBytes (eachByte normal bs)
+normal-bytes : (bs : List ℕ) → AreBytes (eachByte normal bs)
 normal-bytes [] = tt
 normal-bytes (b ∷ bs) = (flag-small (isSet b), normal-bytes bs)
 
 pub flags-joined : (bs : List ℕ) → AreBytes bs → length bs ≡ 8 → flagsOf (joined bs) ≡ joined (eachByte normal bs)
 unfolding flagsOf
 flags-joined bs h n = ap (λ (x : List ℕ). joined (eachByte normal x)) (ap (λ (k : ℕ). bytesOf k (joined bs)) (sym n) ∙ bytes-joined bs h)
-
-pub normal-back : (bs : List ℕ) → length bs ≡ 8 → bytesOf 8 (joined (eachByte normal bs)) ≡ eachByte normal bs
-normal-back bs n = ap (λ (k : ℕ). bytesOf k (joined (eachByte normal bs))) (sym (each-length normal bs ∙ n)) ∙ bytes-joined (eachByte normal bs) (normal-bytes bs)
 
 flag-bit : (t : Bool) → eqb (bit (flagOf t) 0) 1 ≡ t
 unfolding bit

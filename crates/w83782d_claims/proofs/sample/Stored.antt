@@ -52,10 +52,6 @@ is-off : (b : Bool) → not b ≡ true → b ≡ false
 is-off true e = absurd (false≢true e)
 is-off false e = refl
 
-off-on : (b : Bool) → b ≡ false → not b ≡ true
-off-on true e = absurd (true≢false e)
-off-on false e = refl
-
 plain-off : (c j : ℕ) → ruleless c ≡ 0 → isOn (ruleless c) j ≡ false
 plain-off c j e = rw (e, bit-none j)
 

@@ -1,4 +1,5 @@
 pub mod BusClaims
+pub mod Sampled
 pub mod SampleClaims
 pub mod Alarm
 pub mod Figures

@@ -2,30 +2,28 @@
 -- The definitions are those that the contracts cite (w83782d_sample: Conditions.antt, Sample.antt; w83782d_readings: Outputs.antt).
 use mathlib.Core.Path.{_≡_}
 use mathlib.Core.Bool.{Bool, true, false, not, _&&_, _||_}
-use mathlib.Core.List.{List, [], _∷_, map}
+use mathlib.Core.List.{List, [], _∷_}
 use mathlib.Core.Logic.{_≢_, _↔_}
 use Prim.Native.Nat.{ℕ, _+_, _<_, _≤_, max}
 use lib.Bits.{bitAnd}
 use lib.Dec.{eqb, ltb}
-use lib.IntN.{ℤ}
-use lib.ListN.{length, getD}
-use lib.Signed.{ltZ}
+use lib.ListN.{length}
 use Rattle.bits.specs.Bits.{bit, isOn, choose, flagOf}
 use Rattle.bits.specs.Map.{any, bank, Span, span, among}
-use Rattle.numbers.specs.TwosComplement.{half8, half9, signedOf}
-use Rattle.analog.specs.Temperature.{nineBits, outside}
-use Rattle.limits.specs.Limits.{lowByte, sensorHysteresis, sensorOver}
+use Rattle.numbers.specs.TwosComplement.{half8, signedOf}
+use Rattle.analog.specs.Temperature.{outside}
 use Rattle.sensor.specs.Sensor.{statusOf, outputOf}
 use Rattle.sensor.specs.declared.Status.{Status}
 use Rattle.sensor.specs.declared.Output.{Output}
 use Rattle.status.specs.Claims.{UnmaskedBit}
 use Rattle.w83782d_record.specs.declared.samples.Sample.{Sample}
 use Rattle.w83782d_map.specs.Map.{cells, bankAt, indexAt}
-use Rattle.w83782d_map.specs.Cells.{bankCell, beepControl1, beepControl2, busAddress, configuration, diodeSelection, fanCount, fanLimit, gpoControl, highLimit, interruptStatus1, interruptStatus2, lowLimit, ovtProperty, pinControl, pwmClock, realTimeStatus1, realTimeStatus2, remoteAddress, sensor1Hysteresis, sensor1Over, sensor1Value, sensorConfiguration, smiMask1, smiMask2, vbatFanDivisor, voltage}
+use Rattle.w83782d_map.specs.Cells.{bankCell, beepControl1, beepControl2, busAddress, configuration, diodeSelection, fanCount, fanLimit, gpoControl, interruptStatus1, interruptStatus2, ovtProperty, pinControl, pwmClock, realTimeStatus1, realTimeStatus2, remoteAddress, sensor1Value, sensorConfiguration, smiMask1, smiMask2, vbatFanDivisor, voltage}
 use Rattle.w83782d_registers.specs.Registers.{reachOf}
 use Rattle.w83782d_registers.specs.Effects.{remoteOf}
 use Rattle.w83782d_bus.specs.Bus.{State, Written, writeOf, readOf}
 use Rattle.w83782d_claims.specs.BusClaims.{Whole, cellIn, shownIn}
+use Rattle.w83782d_claims.specs.Sampled.{halvesAt, isHotter, isColder, isSlower, isBeside, holdsFor, flagAt}
 use Rattle.w83782d_sample.specs.Stored.{sampledCode, sampledHalves, storedCount, isStopped}
 use Rattle.w83782d_conditions.specs.Conditions.{statusMode, outputMode}
 use Rattle.w83782d_sample.specs.Sample.{Source, firstByte, secondByte, markOf, sampleOf}
@@ -70,57 +68,19 @@ pub record Frame (s t : State) : Type 0 where
   pub others : (c : ℕ) → c < cells → among touched (bankAt c) (indexAt c) ≡ false → cellIn t c ≡ cellIn s c
   pub chassis : t .latches .chassis ≡ s .latches .chassis
 
--- ---- conditions, of the sample's own values under the limits and divisors then set
-
--- a sensor's temperature, over limit and hysteresis, two's complement: sensor 1 whole degrees, 2 and 3 half degrees
-abbrev pub sampledTemperature : Sample → ℕ → ℤ
-sampledTemperature x n = choose (eqb n 1) (x .sensor1) (sampledHalves x n)
-
-abbrev pub halvesIn : State → ℕ → ℤ
-halvesIn s c = signedOf half9 (nineBits (cellIn s c) (cellIn s (lowByte c)))
-
-abbrev pub sensorLimit : State → ℕ → ℤ
-sensorLimit s n = choose (eqb n 1) (signedOf half8 (cellIn s sensor1Over)) (halvesIn s (sensorOver (bankCell n)))
-
-abbrev pub hysteresis : State → ℕ → ℤ
-hysteresis s n = choose (eqb n 1) (signedOf half8 (cellIn s sensor1Hysteresis)) (halvesIn s (sensorHysteresis (bankCell n)))
-
--- S-6: above its over limit, below its hysteresis
-unfoldable pub isHotter : State → Sample → ℕ → Bool
-isHotter s x n = ltZ (sensorLimit s n) (sampledTemperature x n)
-
-unfoldable pub isColder : State → Sample → ℕ → Bool
-isColder s x n = ltZ (sampledTemperature x n) (hysteresis s n)
-
--- S-7: the count after division is above its limit
-unfoldable pub isSlower : State → Sample → ℕ → Bool
-isSlower s x f = ltb (cellIn s (fanLimit f)) (storedCount (s .registers) x f)
-
--- house, S-5: above its high or below its low limit; equal is fine
-unfoldable pub isBeside : State → Sample → ℕ → Bool
-isBeside s x i = ltb (cellIn s (highLimit i)) (sampledCode x i) || ltb (sampledCode x i) (cellIn s (lowLimit i))
-
-abbrev pub holdsFor : State → Sample → Source → Bool
-holdsFor s x (rail i) = isBeside s x i
-holdsFor s x (sensor n) = isHotter s x n
-holdsFor s x (fan f) = isSlower s x f
-holdsFor s x chassis = false
-
--- the flag of bit j of a byte
-abbrev pub flagAt : (Source → Bool) → List Source → ℕ → ℕ
-flagAt f b j = flagOf (getD (map f b) j false)
+-- ---- what is stored, and the real-time bits
 
 -- S-1: it stores the sample's own codes, temperatures and counts, the counts divided
 pub record Stores (s : State) (x : Sample) : Type 0 where
   pub codes : (i : ℕ) → i < 7 → cellIn (after s x) (voltage i) ≡ sampledCode x i
   pub sensor1 : signedOf half8 (cellIn (after s x) sensor1Value) ≡ x .sensor1
-  pub remote : (n : ℕ) → 2 ≤ n → n ≤ 3 → halvesIn (after s x) (bankCell n) ≡ sampledHalves x n
+  pub remote : (n : ℕ) → 2 ≤ n → n ≤ 3 → halvesAt (after s x .registers) (bankCell n) ≡ sampledHalves x n
   pub counts : (f : ℕ) → 1 ≤ f → f ≤ 3 → cellIn (after s x) (fanCount f) ≡ storedCount (s .registers) x f
 
 -- S-9: after an accepted sample each real-time bit is its condition (bit 4 of 5Ah is stored as 0, and read as the latch)
 pub record RealTime (s : State) (x : Sample) : Type 0 where
-  pub first : (j : ℕ) → bit (cellIn (after s x) realTimeStatus1) j ≡ flagAt (holdsFor s x) firstByte j
-  pub second : (j : ℕ) → bit (cellIn (after s x) realTimeStatus2) j ≡ flagAt (holdsFor s x) secondByte j
+  pub first : (j : ℕ) → bit (cellIn (after s x) realTimeStatus1) j ≡ flagAt (holdsFor (s .registers) x) firstByte j
+  pub second : (j : ℕ) → bit (cellIn (after s x) realTimeStatus2) j ≡ flagAt (holdsFor (s .registers) x) secondByte j
 
 -- where a fan's real-time bit is: fans 1 and 2 in 59h, fan 3 in 5Ah
 abbrev pub fanCell : ℕ → ℕ
@@ -137,16 +97,16 @@ FanRings s x = (f : ℕ) → 1 ≤ f → f ≤ 3 → bit (cellIn (after s x) (fa
 
 -- one step of a sensor's status mark and of its OVT output, each from the mark that it has
 unfoldable pub statusFor : State → Sample → ℕ → Status
-statusFor s x n = statusOf (statusMode (s .registers) n) (markOf (s .latches) n) (isHotter s x n) (isColder s x n)
+statusFor s x n = statusOf (statusMode (s .registers) n) (markOf (s .latches) n) (isHotter (s .registers) x n) (isColder (s .registers) x n)
 
 unfoldable pub outputFor : State → Sample → ℕ → Output
-outputFor s x n = outputOf (outputMode (s .registers) n) (remoteOf (s .latches) n .output) (isHotter s x n) (isColder s x n)
+outputFor s x n = outputOf (outputMode (s .registers) n) (remoteOf (s .latches) n .output) (isHotter (s .registers) x n) (isColder (s .registers) x n)
 
 -- S-9: voltages and fans latch where their condition is true, temperatures by their step, and no sample the chassis
 abbrev pub latchesFor : State → Sample → Source → Bool
-latchesFor s x (rail i) = isBeside s x i
+latchesFor s x (rail i) = isBeside (s .registers) x i
 latchesFor s x (sensor n) = statusFor s x n .latched
-latchesFor s x (fan f) = isSlower s x f
+latchesFor s x (fan f) = isSlower (s .registers) x f
 latchesFor s x chassis = false
 
 -- an accepted sample clears no status bit, and sets exactly those that it latches

@@ -38,7 +38,8 @@ use Rattle.w83782d_conditions.proofs.Rules.{not-one}
 use Rattle.w83782d_sample.specs.Sample.{Source, firstByte, secondByte, statusAt, outputAt, remoteAfter, condition, latchedBy, statusStores, latchedByte, steppedLatches, sampleOf}
 use Rattle.w83782d_sample.specs.Sample.Source.{rail, sensor, fan, chassis}
 use Rattle.w83782d_claims.specs.BusClaims.{cellIn}
-use Rattle.w83782d_claims.specs.SampleClaims.{halvesIn, Stores, after, isBeside, isHotter, isColder, isSlower, holdsFor, flagAt, RealTime, FanRings, statusFor, outputFor, latchesFor, StatusOr, LatchesAfter}
+use Rattle.w83782d_claims.specs.Sampled.{halvesAt, isBeside, isHotter, isColder, isSlower, holdsFor, flagAt}
+use Rattle.w83782d_claims.specs.SampleClaims.{Stores, after, RealTime, FanRings, statusFor, outputFor, latchesFor, StatusOr, LatchesAfter}
 use Rattle.w83782d_claims.proofs.sample.Stores.{stored-at, stored-other, accepted-state, left-at}
 use Rattle.w83782d_claims.proofs.sample.Answers.{in-range}
 
@@ -71,23 +72,23 @@ module _ (s : State) (x : Sample) (w : length (s .registers) ≡ cells) where
   kept c n = stored-other (s .registers) x c n
 
   -- ---- a rail, a fan
-  rail-is : (i : ℕ) → voltage i < cells → given (voltage i) ≡ sampledCode x i → stays (highLimit i) → stays (lowLimit i) → isOutside t i ≡ isBeside s x i
+  rail-is : (i : ℕ) → voltage i < cells → given (voltage i) ≡ sampledCode x i → stays (highLimit i) → stays (lowLimit i) → isOutside t i ≡ isBeside (s .registers) x i
   unfolding isOutside isBeside
   rail-is i h g m n = simp (at (voltage i) h ∙ g, kept (highLimit i) m, kept (lowLimit i) n)
 
-  fan-is : (f : ℕ) → fanCount f < cells → given (fanCount f) ≡ storedCount (s .registers) x f → stays (fanLimit f) → isSlow t f ≡ isSlower s x f
+  fan-is : (f : ℕ) → fanCount f < cells → given (fanCount f) ≡ storedCount (s .registers) x f → stays (fanLimit f) → isSlow t f ≡ isSlower (s .registers) x f
   unfolding isSlow isSlower
   fan-is f h g n = simp (at (fanCount f) h ∙ g, kept (fanLimit f) n)
 
   -- ---- sensor 1
   module _ (b : (c : ℕ) → cellIn s c < 256) (fits : Fits x) where
-    above-1 : isAbove t 1 ≡ isHotter s x 1
+    above-1 : isAbove t 1 ≡ isHotter (s .registers) x 1
     unfolding isAbove isHotter
     above-1 =
         ap₂ (λ (a b : ℕ). ltb (levelOf half8 a) (levelOf half8 b)) (kept sensor1Over refl) (at sensor1Value (lit< tt))
         ∙ level-above half8 (x .sensor1) (cellIn s sensor1Over) fits (b sensor1Over)
 
-    below-1 : isBelow t 1 ≡ isColder s x 1
+    below-1 : isBelow t 1 ≡ isColder (s .registers) x 1
     unfolding isBelow isColder
     below-1 =
         ap₂ (λ (a b : ℕ). ltb (levelOf half8 a) (levelOf half8 b)) (at sensor1Value (lit< tt)) (kept sensor1Hysteresis refl)
@@ -105,7 +106,7 @@ module _ (s : State) (x : Sample) (w : length (s .registers) ≡ cells) where
     kept-in : (f : ℕ → ℕ) → stays (f (bankCell 2)) → stays (f (bankCell 3)) → getD t (f (bankCell n)) 0 ≡ cellIn s (f (bankCell n))
     kept-in f p q = kept (f (bankCell n)) (both (λ n. stays (f (bankCell n))) p q n h k)
 
-    above-n : isAbove t n ≡ isHotter s x n
+    above-n : isAbove t n ≡ isHotter (s .registers) x n
     unfolding isAbove isHotter
     above-n =
         simp (not-one n h)
@@ -113,7 +114,7 @@ module _ (s : State) (x : Sample) (w : length (s .registers) ≡ cells) where
         ∙ level-above half9 (sampledHalves x n) (nineBits (cellIn s (bankCell n + 5)) (cellIn s (bankCell n + 5 + 1))) e
         (nine-lt _ _ (b (bankCell n + 5)) (b (bankCell n + 5 + 1))))
 
-    below-n : isBelow t n ≡ isColder s x n
+    below-n : isBelow t n ≡ isColder (s .registers) x n
     unfolding isBelow isColder
     below-n =
         simp (not-one n h)
@@ -182,7 +183,7 @@ module _ (s : State) (x : Sample) (w : length (s .registers) ≡ cells) (a : sam
       (ap₂ nineBits (reading (bankCell 2) (lit< tt)) (reading (bankCell 2 + 1) (lit< tt)))
       (ap₂ nineBits (reading (bankCell 3) (lit< tt)) (reading (bankCell 3 + 1) (lit< tt)))
 
-  halves-are : (n : ℕ) → 2 ≤ n → n ≤ 3 → halvesIn (after s x) (bankCell n) ≡ sampledHalves x n
+  halves-are : (n : ℕ) → 2 ≤ n → n ≤ 3 → halvesAt (after s x .registers) (bankCell n) ≡ sampledHalves x n
   halves-are n h k =
       let e = in-range s x a n h k in
       ap (signedOf half9) (nine-stored n h k ∙ nine-code (sampledHalves x n) e) ∙ twos-complement-holds .back half9 (sampledHalves x n) e
@@ -207,15 +208,15 @@ module _ (s : State) (x : Sample) (w : length (s .registers) ≡ cells) (a : sam
 
 -- ---- where the cells are bytes: the sensors' conditions and steps
 module _ (s : State) (x : Sample) (w : length (s .registers) ≡ cells) (b : (c : ℕ) → cellIn s c < 256) (a : sampleOf s x .answer ≡ 0) where
-  above-remote : (n : ℕ) → 2 ≤ n → n ≤ 3 → isAbove (t s x w) n ≡ isHotter s x n
+  above-remote : (n : ℕ) → 2 ≤ n → n ≤ 3 → isAbove (t s x w) n ≡ isHotter (s .registers) x n
   above-remote n h k = above-n s x w b n h k (in-range s x a n h k)
 
-  below-remote : (n : ℕ) → 2 ≤ n → n ≤ 3 → isBelow (t s x w) n ≡ isColder s x n
+  below-remote : (n : ℕ) → 2 ≤ n → n ≤ 3 → isBelow (t s x w) n ≡ isColder (s .registers) x n
   below-remote n h k = below-n s x w b n h k (in-range s x a n h k)
 
   -- ---- both bytes, over any flag of a source that the sources of a rail and a fan share
-  module _ (f g : Source → Bool) (rails : (i : ℕ) → isOutside (t s x w) i ≡ isBeside s x i → f (rail i) ≡ g (rail i))
-      (fans : (n : ℕ) → isSlow (t s x w) n ≡ isSlower s x n → f (fan n) ≡ g (fan n)) (one : f (sensor 1) ≡ g (sensor 1)) (two : f (sensor 2) ≡ g (sensor 2))
+  module _ (f g : Source → Bool) (rails : (i : ℕ) → isOutside (t s x w) i ≡ isBeside (s .registers) x i → f (rail i) ≡ g (rail i))
+      (fans : (n : ℕ) → isSlow (t s x w) n ≡ isSlower (s .registers) x n → f (fan n) ≡ g (fan n)) (one : f (sensor 1) ≡ g (sensor 1)) (two : f (sensor 2) ≡ g (sensor 2))
       (three : f (sensor 3) ≡ g (sensor 3)) (no : f chassis ≡ g chassis) where
     first-same : map f firstByte ≡ map g firstByte
     first-same =
@@ -242,11 +243,11 @@ module _ (s : State) (x : Sample) (w : length (s .registers) ≡ cells) (b : (c 
         )
 
   module _ (fits : Fits x) where
-    real-first : map (condition (t s x w)) firstByte ≡ map (holdsFor s x) firstByte
-    real-first = first-same (condition (t s x w)) (holdsFor s x) (λ i e. e) (λ n e. e) (above-1 s x w b fits) (above-remote 2 (lit≤ tt) (lit≤ tt)) (above-remote 3 (lit≤ tt) (lit≤ tt)) refl
+    real-first : map (condition (t s x w)) firstByte ≡ map (holdsFor (s .registers) x) firstByte
+    real-first = first-same (condition (t s x w)) (holdsFor (s .registers) x) (λ i e. e) (λ n e. e) (above-1 s x w b fits) (above-remote 2 (lit≤ tt) (lit≤ tt)) (above-remote 3 (lit≤ tt) (lit≤ tt)) refl
 
-    real-second : map (condition (t s x w)) secondByte ≡ map (holdsFor s x) secondByte
-    real-second = second-same (condition (t s x w)) (holdsFor s x) (λ i e. e) (λ n e. e) (above-1 s x w b fits) (above-remote 2 (lit≤ tt) (lit≤ tt)) (above-remote 3 (lit≤ tt) (lit≤ tt)) refl
+    real-second : map (condition (t s x w)) secondByte ≡ map (holdsFor (s .registers) x) secondByte
+    real-second = second-same (condition (t s x w)) (holdsFor (s .registers) x) (λ i e. e) (λ n e. e) (above-1 s x w b fits) (above-remote 2 (lit≤ tt) (lit≤ tt)) (above-remote 3 (lit≤ tt) (lit≤ tt)) refl
 
     pub real-time : RealTime s x
     real-time =

@@ -26,7 +26,8 @@ use Rattle.w83782d_claims.specs.BusClaims.{Whole, shownIn, hasRule}
 use Rattle.w83782d_claims.proofs.bus.Reached.{read-answer, refused}
 use Rattle.w83782d_claims.proofs.bus.Frames.{shown-same, read-state, shown}
 use Rattle.w83782d_claims.specs.SampleClaims.{ruleless, Alike, ReadAlike}
-use Rattle.w83782d_claims.proofs.sample.Stored.{plain, Same, same, alike, interrupt-same}
+use Rattle.w83782d_claims.proofs.sample.Looked.{seen, interrupt-same}
+use Rattle.w83782d_claims.proofs.sample.Stored.{plain, Same, same, alike}
 
 -- ---- what a read leaves
 module _ (rs ts : List ℕ) (e : Same rs ts) where
@@ -41,7 +42,7 @@ module _ (rs ts : List ℕ) (e : Same rs ts) where
 
   latches-same : (l : Latches) (c : ℕ) → readLatches rs l c ≡ readLatches ts l c
   unfolding readLatches
-  latches-same l c = rw (interrupt-same rs ts e 2 (lit≤ tt) (lit≤ tt), interrupt-same rs ts e 3 (lit≤ tt) (lit≤ tt))
+  latches-same l c = rw (interrupt-same rs ts (seen rs ts e) 2 (lit≤ tt) (lit≤ tt), interrupt-same rs ts (seen rs ts e) 3 (lit≤ tt) (lit≤ tt))
 
 -- ---- what it shows: but for 40h, a register with a rule for what is shown has a rule for every bit
 other-rules : (c : ℕ) → c < cells → (hasRule c && (not (eqb c configuration) && not (eqb (ruleless c) 0))) ≡ false

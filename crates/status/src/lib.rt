@@ -1,8 +1,14 @@
-// Two status bytes and their masks: whether a bit is set that its mask leaves, and how many bits are set.
-// Nothing here is of one chip.
+// Two status bytes and their masks: whether a bit is set that its mask leaves, how many bits are set, and bits of both, such as
+// those that an event latches. Nothing here is of one chip.
 ghost use mathlib.Core.Path.{_≡_};
 ghost use Prim.Native.Nat.{_≤_};
 ghost use Rattle.status.specs.Status.{anyUnmasked, alarmCount};
+
+// Bits of two status bytes.
+pub struct StatusBits {
+    pub first: u8,
+    pub second: u8,
+}
 
 // Whether one of two status bytes has a bit set that its mask leaves.
 pub fn any_unmasked(first: u8, first_mask: u8, second: u8, second_mask: u8) -> bool

@@ -6,6 +6,7 @@ ghost use Rattle.w83782d_claims.specs.SampleClaims.{SampleClaims};
 ghost use Rattle.w83782d_plan.specs.Claims.{PlanClaims};
 ghost use Rattle.w83782d_claims.specs.Alarm.{AlarmRings, SetsAlarm, SampleRings};
 ghost use Rattle.w83782d_replay.specs.Events.{EventCalls};
+ghost use Rattle.w83782d_replay.specs.Latched.{StatusClaims};
 ghost use Rattle.w83782d_registers.specs.Ovt.{ovtOf};
 ghost use Rattle.w83782d_readings.specs.Outputs.{smiOf, standingAlarms};
 ghost use Rattle.w83782d_readings.specs.Readings.{voltageOf, speedOf, temperatureOf, dutyOf};
@@ -154,6 +155,7 @@ impl Monitor {
     pub fn apply(mut self, event: Event) -> Shown
         ensures equation { λ r. ⌜ r ≡ applyOf self event ⌝ }
         ensures calls { λ r. ⌜ EventCalls ⌝ }
+        ensures status { λ r. ⌜ StatusClaims (stateOf self) (event .kind) (event .sample) ⌝ }
     {
         let mut registers = self.registers;
         let latches = self.latches;

@@ -1,3 +1,4 @@
 pub mod Logs
 pub mod Runs
 pub mod Events
+pub mod Latched

@@ -17,24 +17,27 @@ use Rattle.sensor.specs.declared.Mode.{Mode}
 use Rattle.sensor.specs.declared.Status.{Status}
 use Rattle.sensor.specs.declared.Output.{Output}
 use Rattle.sensor.specs.declared.Remote.{Remote}
+use Rattle.status.specs.Status.{statusBits}
 use Rattle.w83782d_record.specs.declared.samples.Sample.{Sample}
 use Rattle.w83782d_registers.specs.declared.latches.Latches.{Latches}
 use Rattle.w83782d_registers.specs.Effects.{remoteOf}
 use Rattle.w83782d_map.specs.Map.{cells}
 use Rattle.w83782d_map.specs.Cells.{interruptStatus1, interruptStatus2, realTimeStatus1, realTimeStatus2}
-use Rattle.w83782d_bus.specs.Bus.{state, written, sized}
+use Rattle.w83782d_bus.specs.Bus.{state, sized, outcomeIn}
 use Rattle.w83782d_sample.specs.Stored.{storedReadings, sampleAnswer}
 use Rattle.w83782d_sample.specs.StoredParts.{storedIn}
 use Rattle.w83782d_sample.proofs.store.Rules.{stored-in}
 use Rattle.w83782d_sample.specs.declared.Step.{Step}
 use Rattle.w83782d_sample.specs.declared.Evaluation.{Evaluation}
+use Rattle.w83782d_sample.specs.declared.Latching.{Latching}
+use Rattle.w83782d_sample.specs.declared.Sampled.{Sampled}
 use Rattle.w83782d_conditions.specs.declared.Comparison.{Comparison}
 use Rattle.w83782d_conditions.specs.declared.Compared.{Compared}
 use Rattle.w83782d_conditions.specs.Conditions.{isOutside, isAbove, isSlow, outputMode, comparisonOf, comparedOf}
 use Rattle.w83782d_conditions.specs.ConditionParts.{comparedIn}
 use Rattle.w83782d_conditions.proofs.Rules.{not-one}
-use Rattle.w83782d_sample.specs.Sample.{statusAt, outputAt, remoteAfter, statusRegisters, steppedLatches, sampleOf}
-use Rattle.w83782d_sample.specs.SampleParts.{remoteStep, Evaluates}
+use Rattle.w83782d_sample.specs.Sample.{statusAt, outputAt, remoteAfter, statusRegisters, steppedLatches, sampleOf, latchedOf}
+use Rattle.w83782d_sample.specs.SampleParts.{remoteStep, Evaluates, SetsStatus, refusedOf, latchedIn}
 
 -- ---- the steps
 pub remote-stepped : (s : Comparison) (o : Mode) (r : Remote) (st : Status) (out : Output) → st ≡ statusOf (s .mode) (r .status) (s .above) (s .below) → out ≡ outputOf o (r .output) (s .above) (s .below)
@@ -143,25 +146,36 @@ evaluation rs l c one two three r1 r2 l1 l2 h e e1 e2 e3 f1 f2 g1 g2 =
 
 -- ---- four stores are the list of statusStores
 pub status-set : (rs : List ℕ) (l : Latches) (j : Evaluation) → Evaluates rs l j
-    → (j .latches ≡ steppedLatches rs l)
-    × (set (set (set (set rs interruptStatus1 (bitOr (getD rs interruptStatus1 0) (j .latched1))) interruptStatus2 (bitOr (getD rs interruptStatus2 0) (j .latched2))) realTimeStatus1 (j .real1)) realTimeStatus2 (j .real2)
-    ≡ statusRegisters rs l)
+    → SetsStatus rs l
+    (set (set (set (set rs interruptStatus1 (bitOr (getD rs interruptStatus1 0) (j .latched1))) interruptStatus2 (bitOr (getD rs interruptStatus2 0) (j .latched2))) realTimeStatus1 (j .real1)) realTimeStatus2 (j .real2))
+    (record { latches = j .latches; latched = statusBits (j .latched1) (j .latched2) })
 unfolding statusRegisters
-status-set rs l j e = (e .latches, rw (e .latched1, e .latched2, e .real1, e .real2))
+status-set rs l j e =
+    record {
+      latches = e .latches;
+      registers = rw (e .latched1, e .latched2, e .real1, e .real2);
+      latched = rw (e .latched1, e .latched2);
+    }
 
 -- ---- the sample
 module _ (rs : List ℕ) (l : Latches) (x : Sample) where
-  pub sample-short : (length rs ≡ cells → ⊥) → written (state rs l) 8 ≡ sized rs l (sampleOf (state rs l) x)
-  sample-short n = simp (ne-eqb (length rs) cells n)
+  -- what it left and what it returned
+  abbrev IsSampled : List ℕ → Sampled → Type 0
+  IsSampled ts r = (outcomeIn ts (r .outcome) ≡ sized rs l (sampleOf (state rs l) x)) × (r .latched ≡ latchedIn rs l x)
+
+  pub sample-short : (r : Sampled) → r ≡ refusedOf l 8 → (length rs ≡ cells → ⊥) → IsSampled rs r
+  sample-short r e n = rw e (simp (ne-eqb (length rs) cells n), simp (ne-eqb (length rs) cells n))
 
   module _ (h : length rs ≡ cells) (a : ℕ) (e : a ≡ sampleAnswer rs x) where
-    pub sample-refused : (a ≡ 0 → ⊥) → written (state rs l) a ≡ sized rs l (sampleOf (state rs l) x)
-    unfolding sampleOf
-    sample-refused n = simp (eq-eqb (length rs) cells h, ← e, ne-eqb a 0 n)
+    pub sample-refused : (r : Sampled) → r ≡ refusedOf l a → (a ≡ 0 → ⊥) → IsSampled rs r
+    unfolding sampleOf latchedOf
+    sample-refused r q n = rw q (simp (eq-eqb (length rs) cells h, ← e, ne-eqb a 0 n), simp (eq-eqb (length rs) cells h, ← e, ne-eqb a 0 n))
 
-    pub sample-accepted : (ts us : List ℕ) (m : Latches) → a ≡ 0 → ts ≡ storedIn rs x → (m ≡ steppedLatches ts l) × (us ≡ statusRegisters ts l)
-        → written (state us m) 0 ≡ sized rs l (sampleOf (state rs l) x)
-    unfolding sampleOf
+    pub sample-accepted : (ts us : List ℕ) (m : Latching) → a ≡ 0 → ts ≡ storedIn rs x → SetsStatus ts l us m
+        → IsSampled us (record { outcome = record { latches = m .latches; answer = 0 }; latched = m .latched })
+    unfolding sampleOf latchedOf
     sample-accepted ts us m z f g =
-        let q : ts ≡ storedReadings rs x = f ∙ sym (stored-in rs x h) in
-        simp (eq-eqb (length rs) cells h, ← e, eq-eqb a 0 z, ← q, ← g .0, ← g .1)
+        let q : ts ≡ storedReadings rs x = f ∙ sym (stored-in rs x h) in (
+          simp (eq-eqb (length rs) cells h, ← e, eq-eqb a 0 z, ← q, ← g .latches, ← g .registers),
+          simp (eq-eqb (length rs) cells h, ← e, eq-eqb a 0 z, ← q, ← g .latched),
+        )

@@ -12,6 +12,8 @@ use Rattle.sensor.specs.declared.Mark.{Mark}
 use Rattle.sensor.specs.declared.Status.{Status}
 use Rattle.sensor.specs.declared.Output.{Output}
 use Rattle.sensor.specs.declared.Remote.{Remote}
+use Rattle.status.specs.Status.{statusBits, noBits}
+use Rattle.status.specs.declared.StatusBits.{StatusBits}
 use Rattle.w83782d_record.specs.declared.samples.Sample.{Sample}
 use Rattle.w83782d_registers.specs.declared.latches.Latches.{Latches}
 use Rattle.w83782d_registers.specs.Effects.{latches, remoteOf}
@@ -93,3 +95,10 @@ unfoldable pub sampleOf : State → Sample → Written
 sampleOf s x =
     choose (eqb (sampleAnswer (s .registers) x) 0) (written (sampledState s x) 0)
     (written s (sampleAnswer (s .registers) x))
+
+-- S-9: the bits of 41h and 42h that a sample latches, set already or not; none where it is refused
+unfoldable pub latchedOf : State → Sample → StatusBits
+latchedOf s x =
+    choose (eqb (sampleAnswer (s .registers) x) 0)
+    (statusBits (latchedByte (storedReadings (s .registers) x) (s .latches) firstByte) (latchedByte (storedReadings (s .registers) x) (s .latches) secondByte))
+    noBits

@@ -7,8 +7,8 @@ ghost use lib.ListN.{length};
 ghost use Rattle.bits.specs.Bits.{word};
 ghost use Rattle.w83782d_map.specs.Map.{cells};
 ghost use Rattle.w83782d_bus.specs.Bus.{state, sized, outcomeIn};
-ghost use Rattle.w83782d_sample.specs.Sample.{statusRegisters, steppedLatches, sampleOf};
-ghost use Rattle.w83782d_sample.specs.SampleParts.{remoteStep, Evaluates};
+ghost use Rattle.w83782d_sample.specs.Sample.{sampleOf};
+ghost use Rattle.w83782d_sample.specs.SampleParts.{remoteStep, Evaluates, SetsStatus, refusedOf, latchedIn};
 
 pub mod store;
 
@@ -21,6 +21,7 @@ use sensor::Mode;
 use sensor::Remote;
 use sensor::output_step;
 use sensor::status_step;
+use status::StatusBits;
 use w83782d_bus::Outcome;
 use w83782d_conditions::Comparison;
 use w83782d_conditions::compare;
@@ -116,40 +117,79 @@ fn evaluate(s: &[u8], l: Latches) -> Evaluation
     }
 }
 
-fn set_status(s: &mut [u8], l: Latches) -> Latches
+// The latches after a sample, and the bits that it latched.
+struct Latching {
+    latches: Latches,
+    latched: StatusBits,
+}
+
+fn set_status(s: &mut [u8], l: Latches) -> Latching
     requires { ⌜ length (now s) ≡ cells ⌝ }
-    ensures { λ r. ⌜ (r ≡ steppedLatches (now (s .entry)) l) × (now (s .exit) ≡ statusRegisters (now (s .entry)) l) ⌝ }
+    ensures { λ r. ⌜ SetsStatus (now (s .entry)) l (now (s .exit)) r ⌝ }
 {
     let evaluation = evaluate(s, l);
-    let status1 = s[INTERRUPT_STATUS_1] | evaluation.latched1;
-    let status2 = s[INTERRUPT_STATUS_2] | evaluation.latched2;
+    let first = evaluation.latched1;
+    let second = evaluation.latched2;
+    let status1 = s[INTERRUPT_STATUS_1] | first;
+    let status2 = s[INTERRUPT_STATUS_2] | second;
     s[INTERRUPT_STATUS_1] = status1;
     s[INTERRUPT_STATUS_2] = status2;
     s[REAL_TIME_STATUS_1] = evaluation.real1;
     s[REAL_TIME_STATUS_2] = evaluation.real2;
-    evaluation.latches
+    let latched = StatusBits { first, second };
+    let latches = evaluation.latches;
+    Latching { latches, latched }
 }
 
 // ---- The sample
 
+// What a sample answers, and the bits of 41h and 42h that it latched: none where it is refused.
+pub struct Sampled {
+    pub outcome: Outcome,
+    pub latched: StatusBits,
+}
+
+fn refused(latches: Latches, answer: u8) -> Sampled
+    ensures { λ r. ⌜ r ≡ refusedOf latches answer ⌝ }
+{
+    Sampled {
+        outcome: Outcome { latches, answer },
+        latched: StatusBits {
+            first: 0,
+            second: 0,
+        },
+    }
+}
+
 // A sample in place. Refused as 3 or 4 it leaves registers and latches; a slice that is not of 112 cells is refused as 8.
-pub fn sample_in(s: &mut [u8], l: Latches, x: Sample) -> Outcome
-    ensures { λ r. ⌜ outcomeIn (now (s .exit)) r ≡ sized (now (s .entry)) l (sampleOf (state (now (s .entry)) l) x) ⌝ }
+pub fn sample_latching_in(s: &mut [u8], l: Latches, x: Sample) -> Sampled
+    ensures outcome { λ r. ⌜ outcomeIn (now (s .exit)) (r .outcome) ≡ sized (now (s .entry)) l (sampleOf (state (now (s .entry)) l) x) ⌝ }
+    ensures latched { λ r. ⌜ r .latched ≡ latchedIn (now (s .entry)) l x ⌝ }
 {
     if s.len() != CELLS {
-        return Outcome {
-            latches: l,
-            answer: WRONG_LENGTH,
-        };
+        return refused(l, WRONG_LENGTH);
     }
     let answer = answer_to(s, x);
     if answer != ACCEPTED {
-        return Outcome { latches: l, answer };
+        return refused(l, answer);
     }
     store(s, x);
-    let latches = set_status(s, l);
-    Outcome {
-        latches,
-        answer: ACCEPTED,
+    let done = set_status(s, l);
+    let latches = done.latches;
+    let latched = done.latched;
+    Sampled {
+        outcome: Outcome {
+            latches,
+            answer: ACCEPTED,
+        },
+        latched,
     }
+}
+
+// The same, for those who don't ask what it latched.
+pub fn sample_in(s: &mut [u8], l: Latches, x: Sample) -> Outcome
+    ensures { λ r. ⌜ outcomeIn (now (s .exit)) r ≡ sized (now (s .entry)) l (sampleOf (state (now (s .entry)) l) x) ⌝ }
+{
+    let done = sample_latching_in(s, l, x);
+    done.outcome
 }

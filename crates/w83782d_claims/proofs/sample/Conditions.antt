@@ -140,7 +140,7 @@ module _ (s : State) (x : Sample) (w : length (s .registers) ≡ cells) (a : sam
     ap (λ (b : ℕ). bit b j) (left-at s x realTimeStatus2 a (rw (w) (lit< tt))) ∙ word-bit (map (condition (t s x w)) secondByte) j,
   )
 
-  latched-bit : (j : ℕ)
+  pub latched-bit : (j : ℕ)
       → (bit (cellIn (after s x) interruptStatus1) j ≡ max (bit (cellIn s interruptStatus1) j) (flagAt (latchedBy (t s x w) (s .latches)) firstByte j))
       × (bit (cellIn (after s x) interruptStatus2) j ≡ max (bit (cellIn s interruptStatus2) j) (flagAt (latchedBy (t s x w) (s .latches)) secondByte j))
   latched-bit j = (
@@ -276,12 +276,12 @@ module _ (s : State) (x : Sample) (w : length (s .registers) ≡ cells) (b : (c 
   remote-n n h k = ap₂ (λ (y : Status) (o : Output). remote (y .mark) o) (status-n n h k) (output-n n h k)
 
   module _ (fits : Fits x) where
-    latched-first : map (latchedBy (t s x w) (s .latches)) firstByte ≡ map (latchesFor s x) firstByte
+    pub latched-first : map (latchedBy (t s x w) (s .latches)) firstByte ≡ map (latchesFor s x) firstByte
     latched-first =
         first-same (latchedBy (t s x w) (s .latches)) (latchesFor s x) (λ i e. e) (λ n e. e) (ap (λ (y : Status). y .latched) (status-1 fits))
         (latched-n 2 (lit≤ tt) (lit≤ tt)) (latched-n 3 (lit≤ tt) (lit≤ tt)) refl
 
-    latched-second : map (latchedBy (t s x w) (s .latches)) secondByte ≡ map (latchesFor s x) secondByte
+    pub latched-second : map (latchedBy (t s x w) (s .latches)) secondByte ≡ map (latchesFor s x) secondByte
     latched-second =
         second-same (latchedBy (t s x w) (s .latches)) (latchesFor s x) (λ i e. e) (λ n e. e) (ap (λ (y : Status). y .latched) (status-1 fits))
         (latched-n 2 (lit≤ tt) (lit≤ tt)) (latched-n 3 (lit≤ tt) (lit≤ tt)) refl

@@ -10,13 +10,13 @@ use Rattle.bits.specs.Bits.{bit, isOn, choose}
 use Rattle.bits.specs.Stores.{Store, puts}
 use Rattle.bits.specs.declared.fields.Place.{Place}
 use Rattle.bits.proofs.ChangeLaws.{and-left, and-right}
-use Rattle.bits.proofs.Every.{same-tests}
 use Rattle.bits.proofs.Stores.{isPlain, isRuled, areRuled, SameBut, puts-same, gather-same}
 use Rattle.fan.specs.Count.{valueOf, storedOf, fromBits}
 use Rattle.fan.specs.Divisors.{divisorAt}
 use Rattle.fan.specs.declared.Divisor.{Divisor}
 use Rattle.limits.specs.Limits.{halfLevelAt}
 use Rattle.sensor.specs.declared.Status.{Status}
+use Rattle.status.proofs.AfterLaws.{all-on}
 use Rattle.w83782d_record.specs.declared.samples.Sample.{Sample}
 use Rattle.w83782d_registers.specs.declared.latches.Latches.{Latches}
 use Rattle.w83782d_map.specs.Map.{cells}
@@ -191,11 +191,6 @@ module _ (rs ts : List ℕ) (e : Seen rs ts) where
   pub stepped-same : (l : Latches) → steppedLatches rs l ≡ steppedLatches ts l
   unfolding steppedLatches
   stepped-same l = rw (status-same l 1 above-1 below-1, remote-same l 2 (lit≤ tt) (lit≤ tt), remote-same l 3 (lit≤ tt) (lit≤ tt))
-
--- 255 has every bit of a byte
-all-on : (j : ℕ) → j < 8 → isOn 0b1111_1111 j ≡ true
-unfolding bit
-all-on = same-tests 8 (λ j. isOn 0b1111_1111 j) (λ j. true) tt
 
 -- ---- two registers that are the same but for bits without a rule
 pub seen : (rs ts : List ℕ) → SameBut cells ruleless rs ts → Seen rs ts

@@ -28,7 +28,7 @@ same-length : tie.Need-same-length
 same-length c = search needs
 
 returns : tie.Need-returns
-returns c = status-set _ _ _ (c .before .before .before .before .before .evaluate .ensures)
+returns c = status-set _ _ _ (search needs)
 
 pub set-status-spec : {M : Type 1} → statement M
 set-status-spec =

@@ -1,9 +1,11 @@
 -- Bytes as one number, the first lowest, and flags kept as bytes: a byte of 0 is off, any other on; written as 0 or 1.
 use mathlib.Core.Bool.{Bool, not}
-use mathlib.Core.List.{List, [], _∷_}
+use mathlib.Core.List.{List, [], _∷_, _++_}
 use Prim.Native.Nat.{ℕ, zero, suc, _+_, _*_, _/_, _%_, _<_}
-use lib.Dec.{eqb}
-use Rattle.bits.specs.Bits.{flagOf}
+use lib.Dec.{eqb, leb}
+use lib.ListN.{length, getD}
+use lib.Seq.{sets}
+use Rattle.bits.specs.Bits.{choose, flagOf}
 
 abbrev pub joined : List ℕ → ℕ
 joined [] = 0
@@ -34,3 +36,18 @@ normal b = flagOf (isSet b)
 -- eight bytes as their flags are written
 unfoldable pub flagsOf : ℕ → ℕ
 flagsOf w = joined (eachByte normal (bytesOf 8 w))
+
+-- ---- bytes of a slice from a place on
+abbrev pub fourFrom : List ℕ → ℕ → List ℕ
+fourFrom s at = getD s at 0 ∷ getD s (at + 1) 0 ∷ getD s (at + 2) 0 ∷ getD s (at + 3) 0 ∷ []
+
+abbrev pub eightFrom : List ℕ → ℕ → List ℕ
+eightFrom s at = fourFrom s at ++ fourFrom s (at + 4)
+
+-- eight flags of a slice as they are written; all off in a slice that has not so many bytes
+unfoldable pub flagsAt : List ℕ → ℕ → ℕ
+flagsAt s at = choose (leb (at + 8) (length s)) (joined (eachByte normal (eightFrom s at))) 0
+
+-- eight bytes stored in a slice; one that has not so many stays
+unfoldable pub putEight : List ℕ → ℕ → ℕ → List ℕ
+putEight s at w = choose (leb (at + 8) (length s)) (sets s at (bytesOf 8 w)) s

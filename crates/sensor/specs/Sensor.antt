@@ -28,7 +28,11 @@ releasedOf r = remote (r .status) (output (r .output .mark) false)
 abbrev pub status : Mark → Bool → Status
 status m l = record { mark = m; latched = l }
 
--- T-3: in comparator mode hot is above at the last sample
+-- a mark as a flag, and back; T-3: in comparator mode hot is above at the last sample
+abbrev pub isHot : Mark → Bool
+isHot Armed = false
+isHot Hot = true
+
 abbrev pub markIf : Bool → Mark
 markIf true = Hot
 markIf false = Armed

@@ -1,6 +1,6 @@
 // The marks and outputs of temperature sensors.
 ghost use mathlib.Core.Path.{_≡_};
-ghost use Rattle.sensor.specs.Sensor.{armed, releasedOf, markIf, statusOf, outputOf};
+ghost use Rattle.sensor.specs.Sensor.{armed, releasedOf, isHot, markIf, statusOf, outputOf};
 
 // What a sensor waits for: armed, to rise above its over limit; hot, to fall below its hysteresis.
 pub enum Mark {
@@ -60,6 +60,16 @@ impl Remote {
             asserted: false,
         };
         Remote { status, output }
+    }
+}
+
+// Whether a mark is hot.
+pub fn is_hot(mark: Mark) -> bool
+    ensures { λ r. ⌜ r ≡ isHot mark ⌝ }
+{
+    match mark {
+        Mark::Armed => false,
+        Mark::Hot => true,
     }
 }
 

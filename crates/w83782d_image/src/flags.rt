@@ -2,22 +2,18 @@
 // and the eight spare bytes behind them. A slice that is not an image of 128 bytes stays, and holds the latches of
 // power-on. The eight flags go as one number: one by one they were 54 instructions of a call, taken out and put back.
 ghost use mathlib.Core.Path.{_≡_};
-ghost use Prim.Native.Nat.{_≤_, _+_};
-ghost use lib.ListN.{length};
-ghost use lib.Seq.{sets};
-ghost use Rattle.bits.specs.Bytes.{joined, bytesOf, AreBytes, eachByte, normal};
-ghost use Rattle.w83782d_image.specs.Image.{imageLength, isHot, fourFrom, eightFrom, latchesIn, heldLatches, flagBytes, spareZeros, putFrom};
+ghost use Rattle.w83782d_image.specs.Image.{latchesIn, heldLatches, flagBytes, spareZeros, putFrom};
 use bits::Bit;
-use bits::bytes::four;
+use bits::bytes::flags_at;
 use bits::bytes::is_flag;
 use bits::bytes::join;
-use bits::bytes::normalised;
+use bits::bytes::put_eight;
 use bits::cell;
 use bits::flag;
 use bits::put;
-use sensor::Mark;
 use sensor::Output;
 use sensor::Remote;
+use sensor::is_hot;
 use sensor::mark_if;
 use w83782d_registers::latches::Latches;
 
@@ -29,61 +25,7 @@ const FLAGS: usize = 112;
 
 const SPARE: usize = 120;
 
-// ---- Four bytes as a number, the first lowest
-
-fn four_at(image: &[u8], at: usize) -> u32
-    requires { ⌜ (length (now image) ≡ imageLength) × (at + 4 ≤ imageLength) ⌝ }
-    ensures { λ r. ⌜ (r ≡ joined (fourFrom (now (image .entry)) at)) × AreBytes (fourFrom (now (image .entry)) at) ⌝ }
-{
-    four(image[at], image[at + 1], image[at + 2], image[at + 3])
-}
-
-fn put_four(image: &mut [u8], at: usize, bytes: u32)
-    requires { ⌜ at + 4 ≤ imageLength ⌝ }
-    ensures { λ r. ⌜ now (image .exit) ≡ sets (now (image .entry)) at (bytesOf 4 bytes) ⌝ }
-{
-    let b = bytes / 256;
-    let c = b / 256;
-    let d = c / 256;
-    put(image, at, (bytes % 256) as u8);
-    put(image, at + 1, (b % 256) as u8);
-    put(image, at + 2, (c % 256) as u8);
-    put(image, at + 3, (d % 256) as u8);
-}
-
-// ---- Flags: 0 is closed, armed or released, any other byte opened, hot or asserted
-
-// The eight flags, each as 0 or 1.
-fn flags_in(image: &[u8]) -> u64
-    requires { ⌜ length (now image) ≡ imageLength ⌝ }
-    ensures { λ r. ⌜ r ≡ joined (eachByte normal (eightFrom (now (image .entry)))) ⌝ }
-{
-    let low = four_at(image, FLAGS) as u64;
-    let high = four_at(image, FLAGS + 4) as u64;
-    normalised(high * 0x1_0000_0000 + low)
-}
-
-// An image given eight flags, as they are written. A slice of another length stays.
-fn put_flags(image: &mut [u8], flags: u64)
-    ensures { λ r. ⌜ now (image .exit) ≡ putFrom (now (image .entry)) 112 (bytesOf 8 flags) ⌝ }
-{
-    if image.len() != IMAGE {
-        return;
-    }
-    put_four(image, FLAGS, (flags % 0x1_0000_0000) as u32);
-    put_four(image, FLAGS + 4, (flags / 0x1_0000_0000) as u32);
-}
-
-fn is_hot(mark: Mark) -> bool
-    ensures { λ r. ⌜ r ≡ isHot mark ⌝ }
-{
-    match mark {
-        Mark::Armed => false,
-        Mark::Hot => true,
-    }
-}
-
-// ---- Latches
+// ---- Latches: of their flags 0 is closed, armed or released, any other byte opened, hot or asserted
 
 // The latches that an image holds; of a slice of another length, those of power-on.
 pub fn latches_in(image: &[u8]) -> Latches
@@ -92,7 +34,7 @@ pub fn latches_in(image: &[u8]) -> Latches
     if image.len() != IMAGE {
         return Latches::power_on();
     }
-    let flags = flags_in(image);
+    let flags = flags_at(image, FLAGS);
     let two = Remote {
         status: mark_if(is_flag(flags, Bit::B2)),
         output: Output {
@@ -118,6 +60,9 @@ pub fn latches_in(image: &[u8]) -> Latches
 pub fn put_latches(image: &mut [u8], latches: Latches)
     ensures { λ r. ⌜ now (image .exit) ≡ putFrom (now (image .entry)) 112 (flagBytes latches) ⌝ }
 {
+    if image.len() != IMAGE {
+        return;
+    }
     let sensor1 = latches.sensor1;
     let two = latches.remote[0];
     let three = latches.remote[1];
@@ -137,7 +82,7 @@ pub fn put_latches(image: &mut [u8], latches: Latches)
         is_hot(ovt3),
         output3.asserted,
     );
-    put_flags(image, flags);
+    put_eight(image, FLAGS, flags);
 }
 
 // The chassis latch alone.

@@ -37,7 +37,7 @@ use Rattle.w83782d_conditions.specs.Conditions.{isOutside, isAbove, isSlow, out
 use Rattle.w83782d_conditions.specs.ConditionParts.{comparedIn}
 use Rattle.w83782d_conditions.proofs.Rules.{not-one}
 use Rattle.w83782d_sample.specs.Sample.{statusAt, outputAt, remoteAfter, statusRegisters, steppedLatches, sampleOf, latchedOf}
-use Rattle.w83782d_sample.specs.SampleParts.{remoteStep, Evaluates, SetsStatus, refusedOf, latchedIn}
+use Rattle.w83782d_sample.specs.SampleParts.{remoteStep, Evaluates, SetsStatus, outcomeOf, refusedOf, latchedIn}
 
 -- ---- the steps
 pub remote-stepped : (s : Comparison) (o : Mode) (r : Remote) (st : Status) (out : Output) → st ≡ statusOf (s .mode) (r .status) (s .above) (s .below) → out ≡ outputOf o (r .output) (s .above) (s .below)
@@ -161,7 +161,7 @@ status-set rs l j e =
 module _ (rs : List ℕ) (l : Latches) (x : Sample) where
   -- what it left and what it returned
   abbrev IsSampled : List ℕ → Sampled → Type 0
-  IsSampled ts r = (outcomeIn ts (r .outcome) ≡ sized rs l (sampleOf (state rs l) x)) × (r .latched ≡ latchedIn rs l x)
+  IsSampled ts r = (outcomeIn ts (outcomeOf r) ≡ sized rs l (sampleOf (state rs l) x)) × (r .latched ≡ latchedIn rs l x)
 
   pub sample-short : (r : Sampled) → r ≡ refusedOf l 8 → (length rs ≡ cells → ⊥) → IsSampled rs r
   sample-short r e n = rw e (simp (ne-eqb (length rs) cells n), simp (ne-eqb (length rs) cells n))
@@ -172,7 +172,7 @@ module _ (rs : List ℕ) (l : Latches) (x : Sample) where
     sample-refused r q n = rw q (simp (eq-eqb (length rs) cells h, ← e, ne-eqb a 0 n), simp (eq-eqb (length rs) cells h, ← e, ne-eqb a 0 n))
 
     pub sample-accepted : (ts us : List ℕ) (m : Latching) → a ≡ 0 → ts ≡ storedIn rs x → SetsStatus ts l us m
-        → IsSampled us (record { outcome = record { latches = m .latches; answer = 0 }; latched = m .latched })
+        → IsSampled us (record { latches = m .latches; answer = 0; latched = m .latched })
     unfolding sampleOf latchedOf
     sample-accepted ts us m z f g =
         let q : ts ≡ storedReadings rs x = f ∙ sym (stored-in rs x h) in (

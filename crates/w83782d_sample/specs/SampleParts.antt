@@ -11,6 +11,7 @@ use Rattle.status.specs.declared.StatusBits.{StatusBits}
 use Rattle.w83782d_record.specs.declared.samples.Sample.{Sample}
 use Rattle.w83782d_map.specs.Map.{fits}
 use Rattle.w83782d_registers.specs.declared.latches.Latches.{Latches}
+use Rattle.w83782d_bus.specs.declared.Outcome.{Outcome}
 use Rattle.w83782d_bus.specs.Bus.{state}
 use Rattle.w83782d_conditions.specs.declared.Comparison.{Comparison}
 use Rattle.w83782d_sample.specs.declared.Step.{Step}
@@ -41,9 +42,13 @@ pub record SetsStatus (rs : List ℕ) (l : Latches) (ts : List ℕ) (r : Latchin
   pub registers : ts ≡ statusRegisters rs l
   pub latched : r .latched ≡ statusBits (latchedByte rs l firstByte) (latchedByte rs l secondByte)
 
+-- what a sample answers, without what it latched
+abbrev pub outcomeOf : Sampled → Outcome
+outcomeOf r = record { latches = r .latches; answer = r .answer }
+
 -- a refused sample latches nothing
 abbrev pub refusedOf : Latches → ℕ → Sampled
-refusedOf l a = record { outcome = record { latches = l; answer = a }; latched = noBits }
+refusedOf l a = record { latches = l; answer = a; latched = noBits }
 
 -- in place: nothing is latched in a slice of another length
 abbrev pub latchedIn : List ℕ → Latches → Sample → StatusBits

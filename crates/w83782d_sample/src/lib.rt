@@ -8,7 +8,7 @@ ghost use Rattle.bits.specs.Bits.{word};
 ghost use Rattle.w83782d_map.specs.Map.{cells};
 ghost use Rattle.w83782d_bus.specs.Bus.{state, sized, outcomeIn};
 ghost use Rattle.w83782d_sample.specs.Sample.{sampleOf};
-ghost use Rattle.w83782d_sample.specs.SampleParts.{remoteStep, Evaluates, SetsStatus, refusedOf, latchedIn};
+ghost use Rattle.w83782d_sample.specs.SampleParts.{remoteStep, Evaluates, SetsStatus, outcomeOf, refusedOf, latchedIn};
 
 pub mod store;
 
@@ -145,25 +145,28 @@ fn set_status(s: &mut [u8], l: Latches) -> Latching
 
 // What a sample answers, and the bits of 41h and 42h that it latched: none where it is refused.
 pub struct Sampled {
-    pub outcome: Outcome,
+    pub latches: Latches,
+    pub answer: u8,
     pub latched: StatusBits,
 }
 
 fn refused(latches: Latches, answer: u8) -> Sampled
     ensures { λ r. ⌜ r ≡ refusedOf latches answer ⌝ }
 {
+    let latched = StatusBits {
+        first: 0,
+        second: 0,
+    };
     Sampled {
-        outcome: Outcome { latches, answer },
-        latched: StatusBits {
-            first: 0,
-            second: 0,
-        },
+        latches,
+        answer,
+        latched,
     }
 }
 
 // A sample in place. Refused as 3 or 4 it leaves registers and latches; a slice that is not of 112 cells is refused as 8.
 pub fn sample_latching_in(s: &mut [u8], l: Latches, x: Sample) -> Sampled
-    ensures outcome { λ r. ⌜ outcomeIn (now (s .exit)) (r .outcome) ≡ sized (now (s .entry)) l (sampleOf (state (now (s .entry)) l) x) ⌝ }
+    ensures outcome { λ r. ⌜ outcomeIn (now (s .exit)) (outcomeOf r) ≡ sized (now (s .entry)) l (sampleOf (state (now (s .entry)) l) x) ⌝ }
     ensures latched { λ r. ⌜ r .latched ≡ latchedIn (now (s .entry)) l x ⌝ }
 {
     if s.len() != CELLS {
@@ -178,10 +181,8 @@ pub fn sample_latching_in(s: &mut [u8], l: Latches, x: Sample) -> Sampled
     let latches = done.latches;
     let latched = done.latched;
     Sampled {
-        outcome: Outcome {
-            latches,
-            answer: ACCEPTED,
-        },
+        latches,
+        answer: ACCEPTED,
         latched,
     }
 }
@@ -191,5 +192,9 @@ pub fn sample_in(s: &mut [u8], l: Latches, x: Sample) -> Outcome
     ensures { λ r. ⌜ outcomeIn (now (s .exit)) r ≡ sized (now (s .entry)) l (sampleOf (state (now (s .entry)) l) x) ⌝ }
 {
     let done = sample_latching_in(s, l, x);
-    done.outcome
+    let latches = done.latches;
+    Outcome {
+        latches,
+        answer: done.answer,
+    }
 }

@@ -10,7 +10,8 @@ use Rattle.w83782d_bus.specs.declared.ReadOutcome.{ReadOutcome}
 use Rattle.w83782d_map.specs.Map.{cells}
 use Rattle.w83782d_bus.specs.Bus.{state, readOf, sizedRead, readOutcomeIn}
 use Rattle.w83782d_claims.proofs.bus.Reached.{refused}
-use Rattle.w83782d_image.specs.Image.{imageLength, flagBytes, latchesIn, stateIn, putFrom, called}
+use Rattle.image.specs.Image.{called}
+use Rattle.w83782d_image.specs.Image.{imageLength, flagBytes, latchesIn, stateIn, putFrom}
 use Rattle.w83782d_image.proofs.Images.{shows-none, shows}
 use Rattle.w83782d_c.specs.Accesses.{callWrite, callRead}
 

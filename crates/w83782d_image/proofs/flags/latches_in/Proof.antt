@@ -9,8 +9,8 @@ power-on-requires c κs = search needs
 returns : tie.Need-returns
 returns c = search (needs, held-not)
 
-flags-in-requires : tie.Need-flags-in-requires
-flags-in-requires c κs = search needs
+flags-at-requires : tie.Need-flags-at-requires
+flags-at-requires c κs = search needs
 
 is-flag-requires : tie.Need-is-flag-requires
 is-flag-requires c κs = search needs
@@ -60,7 +60,7 @@ latches-in-spec =
     (tie.spec
     power-on-requires
     returns
-    flags-in-requires
+    flags-at-requires
     is-flag-requires
     mark-if-requires
     is-flag-requires-2

@@ -1,7 +1,11 @@
 use borrow.Author.Needs.{needs}
+use Rattle.w83782d_image.proofs.Images.{put-none}
 use Rattle.w83782d_image.proofs.flags.Flags.{latches-put}
 use Rattle.w83782d_image.proofs.flags.put_latches.Statement.{statement}
 use Rattle.w83782d_image.proofs.flags.put_latches.Tie as tie
+
+returns : tie.Need-returns
+returns c = search (needs, put-none)
 
 element-copy-out-two : tie.Need-element-copy-out-two
 element-copy-out-two c = search needs
@@ -27,19 +31,20 @@ is-hot-requires-5 c κs = search needs
 join-requires : tie.Need-join-requires
 join-requires c κs = search needs
 
-put-flags-requires : tie.Need-put-flags-requires
-put-flags-requires c κs = search needs
+put-eight-requires : tie.Need-put-eight-requires
+put-eight-requires c κs = search needs
 
 same-length : tie.Need-same-length
 same-length c = search needs
 
-returns : tie.Need-returns
-returns c = search (needs, latches-put)
+returns-2 : tie.Need-returns-2
+returns-2 c = search (needs, latches-put)
 
 pub put-latches-spec : {M : Type 1} → statement M
 put-latches-spec =
     tie.close
     (tie.spec
+    returns
     element-copy-out-two
     element-copy-out-three
     is-hot-requires
@@ -48,6 +53,6 @@ put-latches-spec =
     is-hot-requires-4
     is-hot-requires-5
     join-requires
-    put-flags-requires
+    put-eight-requires
     same-length
-    returns)
+    returns-2)

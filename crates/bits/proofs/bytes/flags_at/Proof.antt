@@ -1,7 +1,17 @@
 use borrow.Author.Needs.{needs}
-use Rattle.w83782d_image.proofs.flags.Flags.{flags-are}
-use Rattle.w83782d_image.proofs.flags.flags_in.Statement.{statement}
-use Rattle.w83782d_image.proofs.flags.flags_in.Tie as tie
+use native.Mathlib.Omega.{arith}
+use Rattle.bits.proofs.bytes.Slices.{flags-none, flags-are}
+use Rattle.bits.proofs.bytes.flags_at.Statement.{statement}
+use Rattle.bits.proofs.bytes.flags_at.Tie as tie
+
+returns : tie.Need-returns
+returns c = flags-none _ _ (omega arith)
+
+sub-if2 : tie.Need-sub-if2
+sub-if2 c = search needs
+
+returns-2 : tie.Need-returns-2
+returns-2 c = flags-none _ _ (omega arith)
 
 four-at-requires : tie.Need-four-at-requires
 four-at-requires c κs = search needs
@@ -27,13 +37,16 @@ add-normalised c = search needs
 normalised-requires : tie.Need-normalised-requires
 normalised-requires c κs = search needs
 
-returns : tie.Need-returns
-returns c = search (needs, flags-are)
+returns-3 : tie.Need-returns-3
+returns-3 c = search (needs, flags-are)
 
-pub flags-in-spec : {M : Type 1} → statement M
-flags-in-spec =
+pub flags-at-spec : {M : Type 1} → statement M
+flags-at-spec =
     tie.close
     (tie.spec
+    returns
+    sub-if2
+    returns-2
     four-at-requires
     cast-low
     add-four-at
@@ -42,4 +55,4 @@ flags-in-spec =
     mul-normalised
     add-normalised
     normalised-requires
-    returns)
+    returns-3)

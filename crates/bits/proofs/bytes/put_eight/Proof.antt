@@ -1,11 +1,17 @@
 use borrow.Author.Needs.{needs}
-use Rattle.w83782d_image.proofs.Images.{put-none}
-use Rattle.w83782d_image.proofs.flags.Flags.{put-eight}
-use Rattle.w83782d_image.proofs.flags.put_flags.Statement.{statement}
-use Rattle.w83782d_image.proofs.flags.put_flags.Tie as tie
+use native.Mathlib.Omega.{arith}
+use Rattle.bits.proofs.bytes.Slices.{put-eight-none, put-eight-all}
+use Rattle.bits.proofs.bytes.put_eight.Statement.{statement}
+use Rattle.bits.proofs.bytes.put_eight.Tie as tie
 
 returns : tie.Need-returns
-returns c = search (needs, put-none)
+returns c = put-eight-none _ _ _ (omega arith)
+
+sub-if2 : tie.Need-sub-if2
+sub-if2 c = search needs
+
+returns-2 : tie.Need-returns-2
+returns-2 c = put-eight-none _ _ _ (omega arith)
 
 cast-put-four : tie.Need-cast-put-four
 cast-put-four c = search needs
@@ -25,18 +31,20 @@ put-four-requires-2 c κs = search needs
 same-length : tie.Need-same-length
 same-length c = search needs
 
-returns-2 : tie.Need-returns-2
-returns-2 c = search (needs, put-eight)
+returns-3 : tie.Need-returns-3
+returns-3 c = search (needs, put-eight-all)
 
-pub put-flags-spec : {M : Type 1} → statement M
-put-flags-spec =
+pub put-eight-spec : {M : Type 1} → statement M
+put-eight-spec =
     tie.close
     (tie.spec
     returns
+    sub-if2
+    returns-2
     cast-put-four
     put-four-requires
     add-put-four
     cast-put-four-2
     put-four-requires-2
     same-length
-    returns-2)
+    returns-3)

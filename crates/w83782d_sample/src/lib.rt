@@ -165,7 +165,7 @@ fn refused(latches: Latches, answer: u8) -> Sampled
 }
 
 // A sample in place. Refused as 3 or 4 it leaves registers and latches; a slice that is not of 112 cells is refused as 8.
-pub fn sample_latching_in(s: &mut [u8], l: Latches, x: Sample) -> Sampled
+pub fn sample_in(s: &mut [u8], l: Latches, x: Sample) -> Sampled
     ensures outcome { λ r. ⌜ outcomeIn (now (s .exit)) (outcomeOf r) ≡ sized (now (s .entry)) l (sampleOf (state (now (s .entry)) l) x) ⌝ }
     ensures latched { λ r. ⌜ r .latched ≡ latchedIn (now (s .entry)) l x ⌝ }
 {
@@ -184,17 +184,5 @@ pub fn sample_latching_in(s: &mut [u8], l: Latches, x: Sample) -> Sampled
         latches,
         answer: ACCEPTED,
         latched,
-    }
-}
-
-// The same, for those who don't ask what it latched.
-pub fn sample_in(s: &mut [u8], l: Latches, x: Sample) -> Outcome
-    ensures { λ r. ⌜ outcomeIn (now (s .exit)) r ≡ sized (now (s .entry)) l (sampleOf (state (now (s .entry)) l) x) ⌝ }
-{
-    let done = sample_latching_in(s, l, x);
-    let latches = done.latches;
-    Outcome {
-        latches,
-        answer: done.answer,
     }
 }

@@ -25,7 +25,7 @@ returns c =
     let x = c .before .before .before .before .before .before .before .args .x in
     let fits : (k : ℕ) → Fits w8 (getD (m .registers) k 0) = λ k. search needs in
     let byte : SFits w8 (x .sensor1) = search needs in
-    let done = c .before .before .before .sample-in .ensures in
+    let done = c .before .before .before .sample-in .ensures .0 in
     let claims = sample-claims (stateOf m) x (record { count = search needs; bytes = λ k. fits k .fits }) byte in
     let equation = answered-as (m .registers) (m .latches) (search needs) _ _ _ _ done (c .of .ensures) in
     (equation, (claims, sample-rings (stateOf m) x))

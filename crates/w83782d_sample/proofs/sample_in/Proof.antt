@@ -1,7 +1,7 @@
 use borrow.Author.Needs.{needs}
 use Rattle.w83782d_sample.proofs.Rules.{sample-short, sample-refused, sample-accepted}
-use Rattle.w83782d_sample.proofs.sample_latching_in.Statement.{statement}
-use Rattle.w83782d_sample.proofs.sample_latching_in.Tie as tie
+use Rattle.w83782d_sample.proofs.sample_in.Statement.{statement}
+use Rattle.w83782d_sample.proofs.sample_in.Tie as tie
 
 refused-requires : tie.Need-refused-requires
 refused-requires c κs = search needs
@@ -37,8 +37,8 @@ returns-3 c =
     let answered = stored .before .before .before in
     sample-accepted _ _ _ (search needs) _ (answered .answer-to .ensures) _ _ _ (search needs) (stored .store .ensures) (set .set-status .ensures)
 
-pub sample-latching-in-spec : {M : Type 1} → statement M
-sample-latching-in-spec =
+pub sample-in-spec : {M : Type 1} → statement M
+sample-in-spec =
     tie.close
     (tie.spec
     refused-requires

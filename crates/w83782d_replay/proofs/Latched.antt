@@ -318,6 +318,10 @@ module _ (s t : State) (x : Readings) (w : length (s .registers) ≡ cells) (e :
       let two = latched-2 (storedReadings (t .registers) x) (storedReadings (s .registers) x) both (t .latches) ∙ marks (storedReadings (s .registers) x) .1 in
       rw (answer-same (t .registers) (s .registers) seen x, one, two)
 
+-- the chassis bit whether or not it is set
+chassis-again : (s t : State) (x : Readings) → eventLatches t Chassis x ≡ eventLatches s Chassis x
+chassis-again s t x = refl
+
 -- ---- all of it
 module _ (s : State) (x : Readings) (w : Whole s) (f : SFits w8 (x .sensor1)) where
   leaves : (k : Kind) → LeavesStatus s (applyOf s k x .state) (eventClears s k x) (eventLatches s k x)
@@ -330,7 +334,7 @@ module _ (s : State) (x : Readings) (w : Whole s) (f : SFits w8 (x .sensor1)) wh
   again (Write i v) t e = refl
   again (Read i) t e = refl
   again Sample t e = latched-again s t x (w .count) e
-  again Chassis t e = refl
+  again Chassis t e = chassis-again s t x
 
   pub status-claims : (k : Kind) → StatusClaims s k x
   status-claims k =

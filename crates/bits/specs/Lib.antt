@@ -1,5 +1,4 @@
 pub mod Bits
-pub mod Bytes
 pub mod Map
 pub mod Claims
 pub mod Fields

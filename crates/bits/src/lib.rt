@@ -5,7 +5,6 @@ ghost use mathlib.Core.List.{[], _∷_};
 ghost use lib.ListN.{getD, set};
 ghost use Rattle.bits.specs.Bits.{bit, numberOf, isOn, inSet, mergeOf, change, changes, flagOf, word};
 
-pub mod bytes;
 pub mod fields;
 
 // The number of a bit of a byte: no other can be written.

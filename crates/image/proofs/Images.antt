@@ -10,7 +10,7 @@ use lib.Dec.{eqb}
 use lib.ListN.{length, getD, take, drop, take-append-drop, drop-of-length-le, length-append, length-drop}
 use lib.Seq.{sets, sets-eq, length-sets, getD-append-add, getD-drop, take-at, drop-at, drop-append-add, drop-drop, length-take-le}
 use Rattle.bits.specs.Bits.{choose, flagOf}
-use Rattle.bits.specs.Bytes.{isSet}
+use Rattle.flags.specs.Bytes.{isSet}
 use Rattle.sensor.specs.Sensor.{isHot, markIf}
 use Rattle.sensor.specs.declared.Mark.{Mark}
 use Rattle.sensor.specs.declared.Mark.the-variants.{Armed, Hot}

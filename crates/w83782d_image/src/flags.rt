@@ -4,13 +4,13 @@
 ghost use mathlib.Core.Path.{_≡_};
 ghost use Rattle.w83782d_image.specs.Image.{latchesIn, heldLatches, flagBytes, spareZeros, putFrom};
 use bits::Bit;
-use bits::bytes::flags_at;
-use bits::bytes::is_flag;
-use bits::bytes::join;
-use bits::bytes::put_eight;
 use bits::cell;
 use bits::flag;
 use bits::put;
+use flags::flags_at;
+use flags::is_flag;
+use flags::join;
+use flags::put_eight;
 use sensor::Output;
 use sensor::Remote;
 use sensor::is_hot;

@@ -10,10 +10,10 @@ use lib.Dec.{eqb, lit<}
 use lib.ListN.{length, getD, set}
 use lib.Seq.{sets}
 use Rattle.bits.specs.Bits.{isOn, flagOf}
-use Rattle.bits.specs.Bytes.{joined, bytesOf, AreBytes, isSet, eachByte, normal, eightFrom, flagsAt, putEight}
+use Rattle.flags.specs.Bytes.{joined, bytesOf, AreBytes, isSet, eachByte, normal, eightFrom, flagsAt, putEight}
 use Rattle.bits.specs.Map.{tabulate}
-use Rattle.bits.proofs.bytes.Joined.{bytes-joined, flag-back}
-use Rattle.bits.proofs.bytes.Slices.{next-byte, fills-next}
+use Rattle.flags.proofs.Joined.{bytes-joined, flag-back}
+use Rattle.flags.proofs.Slices.{next-byte, fills-next}
 use Rattle.image.specs.Image.{markFrom}
 use Rattle.image.proofs.Images.{mark-of, flag-mark}
 use Rattle.sensor.specs.Sensor.{remote, output, armed, isHot, markIf}

@@ -10,10 +10,10 @@ use lib.Bits.{bitAnd, bitOr, and-block, or-block, and-le-r}
 use lib.Dec.{eqb, lit<}
 use lib.ListN.{getD, length}
 use lib.Pow.{pow-add}
 use Rattle.bits.specs.Bits.{bit, isOn, flagOf}
-use Rattle.bits.specs.Bytes.{joined, bytesOf, AreBytes, isSet, eachByte, normal, flagsOf}
+use Rattle.flags.specs.Bytes.{joined, bytesOf, AreBytes, isSet, eachByte, normal, flagsOf}
 use Rattle.bits.proofs.BitLaws.{bit-none}
 use Rattle.bits.proofs.Every.{same-below, less-below}
 
 -- ---- the bytes come back
 abbrev limit : ℕ → ℕ

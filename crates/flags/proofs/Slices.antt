@@ -7,9 +7,9 @@ use native.Mathlib.Omega.{arith}
 use borrow.Author.Tests.{le-leb, lt-leb}
 use lib.ListN.{length, getD, set}
 use lib.Seq.{sets, getD-set-other}
-use Rattle.bits.specs.Bytes.{joined, bytesOf, AreBytes, eachByte, normal, flagsOf, fourFrom, eightFrom, flagsAt, putEight}
+use Rattle.flags.specs.Bytes.{joined, bytesOf, AreBytes, eachByte, normal, flagsOf, fourFrom, eightFrom, flagsAt, putEight}
 use Rattle.bits.specs.Map.{tabulate}
-use Rattle.bits.proofs.bytes.Joined.{flags-joined}
+use Rattle.flags.proofs.Joined.{flags-joined}
 
 -- ---- four bytes
 pub four-is : (s : List ℕ) (at a b c d : ℕ) → a ≡ getD s at 0 → b ≡ getD s (at + 1) 0 → c ≡ getD s (at + 2) 0 → d ≡ getD s (at + 3) 0

@@ -1,9 +1,9 @@
 use borrow.Author.Needs.{needs}
 use native.Mathlib.Omega.{arith}
 use Rattle.bits.proofs.BitLaws.{number-small}
-use Rattle.bits.proofs.bytes.Joined.{flag-at}
-use Rattle.bits.proofs.bytes.is_flag.Statement.{statement}
-use Rattle.bits.proofs.bytes.is_flag.Tie as tie
+use Rattle.flags.proofs.Joined.{flag-at}
+use Rattle.flags.proofs.is_flag.Statement.{statement}
+use Rattle.flags.proofs.is_flag.Tie as tie
 
 number-requires : tie.Need-number-requires
 number-requires c κs = search needs

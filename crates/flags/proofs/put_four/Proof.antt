@@ -1,7 +1,7 @@
 use borrow.Author.Needs.{needs}
-use Rattle.bits.proofs.bytes.Slices.{put-four}
-use Rattle.bits.proofs.bytes.put_four.Statement.{statement}
-use Rattle.bits.proofs.bytes.put_four.Tie as tie
+use Rattle.flags.proofs.Slices.{put-four}
+use Rattle.flags.proofs.put_four.Statement.{statement}
+use Rattle.flags.proofs.put_four.Tie as tie
 
 cast-put : tie.Need-cast-put
 cast-put c = search needs

@@ -1,7 +1,7 @@
 use borrow.Author.Needs.{needs}
-use Rattle.bits.proofs.bytes.EightFlags.{join-law}
-use Rattle.bits.proofs.bytes.join.Statement.{statement}
-use Rattle.bits.proofs.bytes.join.Tie as tie
+use Rattle.flags.proofs.EightFlags.{join-law}
+use Rattle.flags.proofs.join.Statement.{statement}
+use Rattle.flags.proofs.join.Tie as tie
 
 flag-requires : tie.Need-flag-requires
 flag-requires c κs = search needs

@@ -1,9 +1,9 @@
 use borrow.Author.Needs.{needs}
 use native.Mathlib.Omega.{arith}
 use lib.Bits.{and-le-r}
-use Rattle.bits.proofs.bytes.Joined.{normalised-flags}
-use Rattle.bits.proofs.bytes.normalised.Statement.{statement}
-use Rattle.bits.proofs.bytes.normalised.Tie as tie
+use Rattle.flags.proofs.Joined.{normalised-flags}
+use Rattle.flags.proofs.normalised.Statement.{statement}
+use Rattle.flags.proofs.normalised.Tie as tie
 
 add-result : tie.Need-add-result
 add-result c = omega (arith, and-le-r (c .args .bytes) 0x7f7f_7f7f_7f7f_7f7f)

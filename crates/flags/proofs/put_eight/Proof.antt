@@ -1,8 +1,8 @@
 use borrow.Author.Needs.{needs}
 use native.Mathlib.Omega.{arith}
-use Rattle.bits.proofs.bytes.Slices.{put-eight-none, put-eight-all}
-use Rattle.bits.proofs.bytes.put_eight.Statement.{statement}
-use Rattle.bits.proofs.bytes.put_eight.Tie as tie
+use Rattle.flags.proofs.Slices.{put-eight-none, put-eight-all}
+use Rattle.flags.proofs.put_eight.Statement.{statement}
+use Rattle.flags.proofs.put_eight.Tie as tie
 
 returns : tie.Need-returns
 returns c = put-eight-none _ _ _ (omega arith)

@@ -5,11 +5,11 @@ ghost use mathlib.Core.List.{[], _∷_};
 ghost use Prim.Native.Nat.{_+_, _*_, _≤_};
 ghost use lib.ListN.{length};
 ghost use lib.Seq.{sets};
 ghost use Rattle.bits.specs.Bits.{numberOf, isOn, flagOf};
-ghost use Rattle.bits.specs.Bytes.{joined, bytesOf, AreBytes, flagsOf, fourFrom, flagsAt, putEight};
-use crate::Bit;
-use crate::flag;
-use crate::put;
+ghost use Rattle.flags.specs.Bytes.{joined, bytesOf, AreBytes, flagsOf, fourFrom, flagsAt, putEight};
+use bits::Bit;
+use bits::flag;
+use bits::put;
 
 // The seven low bits of each of eight bytes, and the top ones.
 const LOW: u64 = 0x7f7f_7f7f_7f7f_7f7f;

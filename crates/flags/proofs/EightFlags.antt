@@ -5,9 +5,9 @@ use mathlib.Core.List.{List, [], _∷_}
 use Prim.Native.Nat.{ℕ, _*_, _%_}
 use lib.Bits.{bitOr}
 use lib.Dec.{eqb, eqb→eq}
 use Rattle.bits.specs.Bits.{flagOf}
-use Rattle.bits.specs.Bytes.{joined}
+use Rattle.flags.specs.Bytes.{joined}
 use Rattle.bits.proofs.Flags.{each4, each4-at}
 
 abbrev flags : Bool → Bool → Bool → Bool → Bool → Bool → Bool → Bool → List ℕ
 flags a b c d e f g h = flagOf a ∷ flagOf b ∷ flagOf c ∷ flagOf d ∷ flagOf e ∷ flagOf f ∷ flagOf g ∷ flagOf h ∷ []

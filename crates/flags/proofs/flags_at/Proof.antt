@@ -1,8 +1,8 @@
 use borrow.Author.Needs.{needs}
 use native.Mathlib.Omega.{arith}
-use Rattle.bits.proofs.bytes.Slices.{flags-none, flags-are}
-use Rattle.bits.proofs.bytes.flags_at.Statement.{statement}
-use Rattle.bits.proofs.bytes.flags_at.Tie as tie
+use Rattle.flags.proofs.Slices.{flags-none, flags-are}
+use Rattle.flags.proofs.flags_at.Statement.{statement}
+use Rattle.flags.proofs.flags_at.Tie as tie
 
 returns : tie.Need-returns
 returns c = flags-none _ _ (omega arith)

@@ -8,9 +8,9 @@ use lib.Seq.{sets}
 use borrow.Author.Needs.{needs}
 use Rattle.bits.specs.Map.{tabulate}
 use Rattle.w83782d_image.proofs.Images.{put-none}
-use Rattle.w83782d_image.proofs.flags.Flags.{normalised, normalises-next, normalised-all}
-use Rattle.w83782d_image.proofs.flags.normalise_flags.Statement.{statement}
-use Rattle.w83782d_image.proofs.flags.normalise_flags.Tie as tie
+use Rattle.w83782d_image.proofs.latches.Flags.{normalised, normalises-next, normalised-all}
+use Rattle.w83782d_image.proofs.latches.normalise_flags.Statement.{statement}
+use Rattle.w83782d_image.proofs.latches.normalise_flags.Tie as tie
 
 abbrev Inv-loop : tie.InvT-loop
 Inv-loop image₀ at₀ image at =

@@ -1,8 +1,8 @@
 use borrow.Author.Needs.{needs}
 use Rattle.w83782d_image.proofs.Images.{put-none}
-use Rattle.w83782d_image.proofs.flags.Flags.{latches-put}
-use Rattle.w83782d_image.proofs.flags.put_latches.Statement.{statement}
-use Rattle.w83782d_image.proofs.flags.put_latches.Tie as tie
+use Rattle.w83782d_image.proofs.latches.Flags.{latches-put}
+use Rattle.w83782d_image.proofs.latches.put_latches.Statement.{statement}
+use Rattle.w83782d_image.proofs.latches.put_latches.Tie as tie
 
 returns : tie.Need-returns
 returns c = search (needs, put-none)

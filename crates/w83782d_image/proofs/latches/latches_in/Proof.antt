@@ -1,7 +1,7 @@
 use borrow.Author.Needs.{needs}
-use Rattle.w83782d_image.proofs.flags.Flags.{held-not, latches-are}
-use Rattle.w83782d_image.proofs.flags.latches_in.Statement.{statement}
-use Rattle.w83782d_image.proofs.flags.latches_in.Tie as tie
+use Rattle.w83782d_image.proofs.latches.Flags.{held-not, latches-are}
+use Rattle.w83782d_image.proofs.latches.latches_in.Statement.{statement}
+use Rattle.w83782d_image.proofs.latches.latches_in.Tie as tie
 
 power-on-requires : tie.Need-power-on-requires
 power-on-requires c κs = search needs

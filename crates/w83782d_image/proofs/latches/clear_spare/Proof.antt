@@ -9,9 +9,9 @@ use Rattle.bits.specs.Map.{tabulate}
 use lib.Seq.{sets}
 use borrow.Author.Needs.{needs}
 use Rattle.w83782d_image.proofs.Images.{put-none, put-whole}
-use Rattle.w83782d_image.proofs.flags.Flags.{cleared-byte, clears-next}
-use Rattle.w83782d_image.proofs.flags.clear_spare.Statement.{statement}
-use Rattle.w83782d_image.proofs.flags.clear_spare.Tie as tie
+use Rattle.w83782d_image.proofs.latches.Flags.{cleared-byte, clears-next}
+use Rattle.w83782d_image.proofs.latches.clear_spare.Statement.{statement}
+use Rattle.w83782d_image.proofs.latches.clear_spare.Tie as tie
 
 abbrev Inv-loop : tie.InvT-loop
 Inv-loop image₀ at₀ image at = (120 ≤ at) × (at ≤ 128) × (length image ≡ length image₀) × (image ≡ sets image₀ 120 (tabulate (at - 120) 120 cleared-byte))

@@ -1,7 +1,7 @@
 use borrow.Author.Needs.{needs}
-use Rattle.w83782d_image.proofs.flags.Flags.{flag-look}
-use Rattle.w83782d_image.proofs.flags.chassis_in.Statement.{statement}
-use Rattle.w83782d_image.proofs.flags.chassis_in.Tie as tie
+use Rattle.w83782d_image.proofs.latches.Flags.{flag-look}
+use Rattle.w83782d_image.proofs.latches.chassis_in.Statement.{statement}
+use Rattle.w83782d_image.proofs.latches.chassis_in.Tie as tie
 
 cell-requires : tie.Need-cell-requires
 cell-requires c κs = search needs

@@ -24,7 +24,9 @@ pub fn searched_plan(rpm: u32) -> Option<Plan> {
 }
 
 /// The plan by the second program's other planner, which tries the best limit of
-/// each divisor: the one to measure against.
+/// each divisor: the one to measure against. To be inlined where it is used, as it
+/// would be were it written there.
+#[inline]
 pub fn direct_plan(rpm: u32) -> Option<Plan> {
     (1..=FASTEST).contains(&rpm).then(|| Plan::of(rpm))
 }

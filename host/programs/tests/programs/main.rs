@@ -1,11 +1,13 @@
-//! The built programs `replay` and `plan` against the second program.
+//! The built programs `replay` and `plan` against the second program, and the commands
+//! at the top of the repository.
 //!
-//! Each is run on many inputs, and every line that it prints is held to a line that
-//! this package's library makes from what `reference` gives.
+//! Each program is run on many inputs, and every line that it prints is held to a line
+//! that this package's library makes from what `reference` gives.
 
 #[path = "../../../log-tool/tests/common/mod.rs"]
 mod common;
 
+mod commands;
 mod logs;
 mod plan;
 mod program;

@@ -50,7 +50,7 @@ pub fn jobs(size: Size) -> Vec<Job> {
         replay("replay, any day", inputs::any_log(size, rng).1),
         Job {
             name: "plan, 2,000 speeds",
-            second: "the same lines through a buffer: Plan::of",
+            second: "the same lines by host/programs, buffered: Plan::of",
             goal: None,
             program: "plan",
             arguments: (0..SPEEDS)
@@ -68,7 +68,7 @@ fn replay(name: &'static str, day: Vec<Record>) -> Job {
     assert_eq!(Monitor::power_on().replay(log), (0, records), "{name}");
     Job {
         name,
-        second: "the same lines through a buffer: decode, Monitor::apply, SMI, OVT and alarms",
+        second: "the same lines by host/programs, buffered: decode, Monitor::apply, outputs",
         goal: Some(REPLAY),
         program: "replay",
         arguments: Vec::new(),

@@ -2,12 +2,13 @@
 //! writes what it counted each time that function is left.
 
 use crate::calls::Row;
+use crate::folder::Folder;
 use std::env;
 use std::fs;
 use std::hint::black_box;
 use std::io::{Error, ErrorKind};
 use std::path::{Path, PathBuf};
-use std::process::{self, Command};
+use std::process::Command;
 
 /// The function that callgrind counts in.
 const COUNTED: &str = "w83782d_bench_counted";
@@ -38,11 +39,7 @@ pub fn under_callgrind(rows: usize) -> Option<Vec<[u64; 2]>> {
         println!("No instruction counts: valgrind doesn't start here ({error}).\n");
         return None;
     }
-    let folder = env::temp_dir().join(format!("w83782d-bench-{}", process::id()));
-    fs::create_dir_all(&folder).expect("a folder for callgrind's files");
-    let counted = counted_in(&folder, rows);
-    fs::remove_dir_all(&folder).expect("the folder was made above");
-    match counted {
+    match counted_in(Folder::new().path(), rows) {
         Ok(counts) => Some(counts),
         Err(error) => {
             println!("No instruction counts: {error}.\n");

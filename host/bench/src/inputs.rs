@@ -264,6 +264,33 @@ pub fn usual_log(size: Size, rng: &mut Rng) -> (Monitor, Vec<Record>) {
     (start, log.records)
 }
 
+/// A cabinet's day for a program, which starts from power-on: what sets the cabinet
+/// up comes first.
+pub fn usual_day(size: Size, rng: &mut Rng) -> Vec<Record> {
+    let (start, records) = usual_log(size, rng);
+    let mut day = set_up(&start);
+    day.extend(records);
+    day.truncate(size.records);
+    day
+}
+
+/// The writes that bring a monitor from power-on to this one.
+fn set_up(wanted: &Monitor) -> Vec<Record> {
+    let mut log = Log::from(Monitor::power_on());
+    // Bank 0 last: it stays selected.
+    for (bank, indexes) in [(1, 0x50..=0x56), (2, 0x50..=0x56), (0, 0x20..=0x5F)] {
+        log.write(0x4E, bank);
+        for index in indexes {
+            let cell = cell(bank, index);
+            if log.monitor.registers[cell] != wanted.registers[cell] {
+                log.write(index, wanted.registers[cell]);
+            }
+        }
+    }
+    assert_eq!(log.monitor, *wanted);
+    log.records
+}
+
 /// Any events that are accepted; few of them chassis events, which cost next to
 /// nothing. A write to 40h may stop the samples until the next.
 pub fn any_log(size: Size, rng: &mut Rng) -> (Monitor, Vec<Record>) {

@@ -9,6 +9,7 @@ use crate::common::rng::Rng;
 use crate::image::Image;
 use crate::inputs::{self, Part, Record, Size};
 use crate::raw;
+use programs::direct_plan;
 use reference::w83782d::{cell, decode, Event, Monitor, Sample};
 use reference::Plan;
 use std::hint::black_box;
@@ -216,12 +217,6 @@ fn sample(mix: Mix, runs: Vec<MonitorRun<Sample>>) -> Row {
 // The second program's planner tries 2,040 plans: it is there to be believed, and
 // no measure of what a plan costs. So the rows that count use its other one,
 // `Plan::of`, which tries the best limit of each divisor.
-
-const MOST: u32 = 1_350_000;
-
-fn direct_plan(rpm: u32) -> Option<Plan> {
-    (1..=MOST).contains(&rpm).then(|| Plan::of(rpm))
-}
 
 const LIMIT: [usize; 3] = [cell(0, 0x3B), cell(0, 0x3C), cell(0, 0x3D)];
 /// The divisor's low two bits, and the cell of its top one: a cell and a bit.

@@ -1,4 +1,4 @@
-//! Nanoseconds of a call.
+//! What calls take, in rounds of both programs by turns.
 
 use crate::calls::Row;
 use std::fs;
@@ -9,7 +9,7 @@ use std::time::{Duration, Instant};
 const ROUNDS: usize = 5;
 const ROUND: Duration = Duration::from_millis(200);
 
-/// What the rounds of one program took, nanoseconds of a call.
+/// What the rounds of one program took.
 pub struct Times {
     /// The fastest round: whatever else the machine did can only have slowed one.
     pub least: f64,
@@ -17,7 +17,17 @@ pub struct Times {
     pub median: f64,
 }
 
-/// The library, then the second program.
+impl Times {
+    pub fn of<const ROUNDS: usize>(mut rounds: [f64; ROUNDS]) -> Times {
+        rounds.sort_by(f64::total_cmp);
+        Times {
+            least: rounds[0],
+            median: rounds[ROUNDS / 2],
+        }
+    }
+}
+
+/// Nanoseconds of a call, by the library, then by the second program.
 pub fn both(row: &Row) -> [Times; 2] {
     let passes = row.passes.each_ref().map(|run| passes_of_a_round(run));
     let mut rounds = [[0.0; ROUNDS]; 2];
@@ -27,13 +37,7 @@ pub fn both(row: &Row) -> [Times; 2] {
         let calls = (passes[side] * row.calls) as f64;
         rounds[side][round] = took.as_secs_f64() * 1e9 / calls;
     }
-    rounds.map(|mut rounds| {
-        rounds.sort_by(f64::total_cmp);
-        Times {
-            least: rounds[0],
-            median: rounds[ROUNDS / 2],
-        }
-    })
+    rounds.map(Times::of)
 }
 
 fn timed(run: &dyn Fn(u64), passes: u64) -> Duration {

@@ -1,15 +1,15 @@
-//! The built programs `replay` and `plan` against the second program.
+//! The built programs `replay` and `plan` against the second program, and the commands
+//! at the top of the repository.
 //!
-//! Each is run on many inputs, and every line that it prints is held to a line made
-//! here from what `reference` gives. The form of the lines is README's and that of
-//! the programs' own heads.
+//! Each program is run on many inputs, and every line that it prints is held to a line
+//! that this package's library makes from what `reference` gives.
 
 #[path = "../../../log-tool/tests/common/mod.rs"]
 mod common;
 
-mod lines;
+mod commands;
 mod logs;
-mod names;
 mod plan;
 mod program;
 mod replay;
+mod second;

@@ -2,97 +2,19 @@
 
 use crate::common::rng::Rng;
 use crate::program::{hold_text, plan, top};
+use programs::{searched_plan, LONGEST};
 use std::ffi::OsStr;
 use std::fs;
 use std::os::unix::ffi::OsStrExt;
 
-/// The longest argument that is looked at.
-const LONGEST: usize = 4_096;
-
 /// "A plan is for 1 to 1,350,000 rpm."
 const FASTEST: u32 = 1_350_000;
 
-const REFUSED: &str = "refused (6): a plan is for 1 to 1,350,000 rpm";
-
-/// What `plan` should print: plans on standard output, the rest on standard error.
-#[derive(Default)]
-struct Expected {
-    output: Vec<u8>,
-    error: Vec<u8>,
-}
-
-impl Expected {
-    fn of<W: AsRef<[u8]>>(arguments: &[W]) -> Expected {
-        let mut expected = Expected::default();
-        if arguments.is_empty() {
-            expected.tell("usage: plan SPEED ..  (turns a minute, 1 to 1350000)");
-        }
-        for (n, word) in arguments.iter().map(W::as_ref).enumerate() {
-            match number(word) {
-                _ if word.len() > LONGEST => {
-                    expected.tell(format!("argument {}: too long for a speed", n + 1));
-                }
-                Number::Of(rpm) => expected.plan(rpm),
-                // Printed as it was written.
-                Number::TooLarge => expected.tell_of(&[word, b" rpm"].concat(), REFUSED),
-                Number::None => expected.tell_of(
-                    word,
-                    "not a speed: write it as a whole number, in turns a minute",
-                ),
-            }
-        }
-        expected
-    }
-
-    fn plan(&mut self, rpm: u32) {
-        let (answer, divisor, limit) = reference::plan(rpm);
-        if answer != 0 {
-            assert_eq!(answer, 6);
-            return self.tell(format!("{rpm} rpm: {REFUSED}"));
-        }
-        let count = (u32::from(limit) + 1) * divisor;
-        let text = format!(
-            "{rpm} rpm: divisor {divisor}, limit {limit}, rings from count {count}, at {} rpm and below\n",
-            speed(count)
-        );
-        self.output.extend(text.into_bytes());
-    }
-
-    fn tell(&mut self, text: impl Into<String>) {
-        self.error.extend(text.into().into_bytes());
-        self.error.push(b'\n');
-    }
-
-    fn tell_of(&mut self, word: &[u8], text: &str) {
-        self.error.extend(word);
-        self.tell(format!(": {text}"));
-    }
-}
-
-/// "1,350,000 / count, in hundredths, rounded down" (D-34).
-fn speed(count: u32) -> String {
-    let hundredths = 100 * FASTEST / count;
-    format!("{}.{:02}", hundredths / 100, hundredths % 100)
-}
-
-/// What an argument says.
-enum Number {
-    Of(u32),
-    /// Of ten digits or more, zeros in front aside.
-    TooLarge,
-    None,
-}
-
-fn number(word: &[u8]) -> Number {
-    if word.is_empty() || !word.iter().all(u8::is_ascii_digit) {
-        return Number::None;
-    }
-    let zeros = word.iter().take_while(|&&digit| digit == b'0').count();
-    match &word[zeros..] {
-        [] => Number::Of(0),
-        digits if digits.len() > 9 => Number::TooLarge,
-        digits => Number::Of(String::from_utf8_lossy(digits).parse().expect("digits")),
-    }
+/// What `plan` should print on standard output, and on standard error.
+pub fn expected<W: AsRef<[u8]>>(arguments: &[W]) -> [Vec<u8>; 2] {
+    let [mut output, mut errors] = [Vec::new(), Vec::new()];
+    programs::plan(arguments, searched_plan, &mut output, &mut errors).expect("memory is written");
+    [output, errors]
 }
 
 /// Holds all that `plan` prints to the second program.
@@ -101,14 +23,10 @@ fn hold<W: AsRef<[u8]>>(arguments: &[W], origin: &str) {
         .iter()
         .map(|word| OsStr::from_bytes(word.as_ref()))
         .collect();
-    let expected = Expected::of(arguments);
+    let [output, errors] = expected(arguments);
     let found = plan(&words);
-    hold_text(
-        &found.stdout,
-        &expected.output,
-        &format!("{origin}, output"),
-    );
-    hold_text(&found.stderr, &expected.error, &format!("{origin}, errors"));
+    hold_text(&found.stdout, &output, &format!("{origin}, output"));
+    hold_text(&found.stderr, &errors, &format!("{origin}, errors"));
     assert!(found.status.success(), "{origin}: {}", found.status);
 }
 
@@ -256,11 +174,11 @@ fn readmes_and_the_gates_lines_are_expected_here_too() {
     let speeds: Vec<&str> = command.expect("README shows plan").split(' ').collect();
     let lines = shown.take(speeds.len()).map(|line| format!("{line}\n"));
     let lines: String = lines.collect();
-    hold_text(lines.as_bytes(), &Expected::of(&speeds).output, "README");
+    hold_text(lines.as_bytes(), &expected(&speeds)[0], "README");
 
     let folder = top().join("crates/plan");
     let words = fs::read_to_string(folder.join("args")).expect("the gate's words");
     let words: Vec<&str> = words.lines().collect();
     let lines = fs::read(folder.join("stdout")).expect("the gate's lines");
-    hold_text(&lines, &Expected::of(&words).output, "the gate's words");
+    hold_text(&lines, &expected(&words)[0], "the gate's words");
 }

@@ -2,17 +2,28 @@
 
 use crate::common::record;
 use crate::common::rng::Rng;
-use crate::lines::lines;
 use crate::logs::{any_log, Log};
 use crate::program::{hold_text, replay, top, Feed};
+use programs::PART;
 use reference::w83782d::{Event, Monitor, RECORD_LENGTH};
 use std::fs;
 
-/// Bytes that `replay` reads at a time, and the records in them.
-const PART: usize = 65_536;
+/// The records in what is read at a time.
 const PART_RECORDS: usize = PART / RECORD_LENGTH;
 
 const PIPE: Feed = Feed::Pieces(&[usize::MAX]);
+
+/// What `replay` should print for a log. Its end is that of the second program's own
+/// replay.
+pub fn lines(log: &[u8]) -> String {
+    let mut lines = Vec::new();
+    programs::replay(log, &mut lines).expect("memory is written");
+    let lines = String::from_utf8(lines).expect("text");
+    let (answer, accepted) = Monitor::power_on().replay(log);
+    let end = format!("end: answer {answer}, accepted {accepted}");
+    assert_eq!(lines.lines().last(), Some(&*end));
+    lines
+}
 
 /// Holds all that `replay` prints for a log to the second program.
 fn hold(log: &[u8], feed: Feed, origin: &str) {

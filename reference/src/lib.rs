@@ -47,4 +47,6 @@ pub mod answer {
     pub const NO_CHANNEL: u8 = 7;
     /// 8: "output buffer not of 32 bytes".
     pub const BAD_BUFFER: u8 = 8;
+    /// 12: a whole record after the 100,000 that a day holds (request C-11).
+    pub const DAY_FULL: u8 = 12;
 }

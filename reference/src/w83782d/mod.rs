@@ -6,6 +6,7 @@ mod monitor;
 mod plan;
 mod readings;
 mod record;
+mod report;
 mod sample;
 
 pub use in_force::{rewrites, InForce};
@@ -13,4 +14,5 @@ pub use map::{cell, find, Register, Row, ANY, CELLS, REGISTERS, ROWS};
 pub use monitor::Monitor;
 pub use readings::{millivolts, pwm_parts};
 pub use record::{decode, record_at, write_record, Event, RECORD_LENGTH};
+pub use report::{Report, DAY};
 pub use sample::Sample;

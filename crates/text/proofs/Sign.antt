@@ -1,6 +1,6 @@
 -- A signed number: its magnitude as the machine makes it, one more than -1 - z below 0; its characters and their meaning.
 -- Assumes nothing.
-use Prim.Native.Nat.{ℕ, suc, _+_, _≤_}
+use Prim.Native.Nat.{ℕ, suc, _+_, _^_, _≤_, _<_}
 use native.Mathlib.Omega.{arith}
 use native.Mathlib.Numerals.{add-one}
 use mathlib.Core.Path.{_≡_, refl, ap, _∙_}
@@ -58,8 +58,8 @@ module _ (z : ℤ) (s : SFits w64 z) (below : ltZ (back z) (pos 0) ≡ true) whe
   pub sub-casts : T (nonNeg (back (negsuc 0 -ℤ back z))) × Fits w64 (natAbs (back (negsuc 0 -ℤ back z)))
   sub-casts = rw turned-back (tt, record { fits = omega (arith, s .sfits) })
 
-  pub sub-adds : Fits w64 (natAbs (back (negsuc 0 -ℤ back z)) + 1)
-  sub-adds = rw turned-back (record { fits = omega (arith, s .sfits) })
+  pub sub-small : natAbs (back (negsuc 0 -ℤ back z)) < 2 ^ 63
+  sub-small = rw turned-back (omega (arith, s .sfits))
 
   pub sub-is : natAbs (back (negsuc 0 -ℤ back z)) + 1 ≡ magnitudeOf z
   sub-is = rw turned-back (below-is z (rw (toZ-ofZ w64 z s) at below))

@@ -1,4 +1,5 @@
-use Rattle.text.proofs.Sign.{sub-fits, sub-casts, sub-adds, sub-is, whole-casts, whole-is}
+use native.Mathlib.Omega.{arith}
+use Rattle.text.proofs.Sign.{sub-fits, sub-casts, sub-small, sub-is, whole-casts, whole-is}
 use borrow.Author.Needs.{needs}
 use Rattle.text.proofs.magnitude.Statement.{statement}
 use Rattle.text.proofs.magnitude.Tie as tie
@@ -10,7 +11,7 @@ cast-result : tie.Need-cast-result
 cast-result c = sub-casts (c .before .args .z) (c .before .fits .z) (search needs)
 
 add-result : tie.Need-add-result
-add-result c = search (needs, sub-adds)
+add-result c = record { fits = omega (arith, sub-small (c .before .args .z) (c .before .fits .z) (search needs)) }
 
 returns : tie.Need-returns
 returns c = search (needs, sub-is)

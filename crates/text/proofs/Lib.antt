@@ -1,0 +1,5 @@
+pub mod Puts
+pub mod Decimal
+pub mod Point
+pub mod Sign
+pub mod Hex

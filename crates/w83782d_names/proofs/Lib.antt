@@ -1,0 +1,3 @@
+pub mod Trimmed
+pub mod Tables
+pub mod Cases

@@ -1,18 +1,17 @@
--- Puts follow one another: what is put behind a word is put with it (`then`), so a line is the puts of its parts. A push is
--- the put of what fits.
+-- Puts follow one another: what is put behind a word is put with it (`then`), so a line is the puts of its parts.
 -- Assumes nothing.
-use Prim.Native.Nat.{ℕ, suc, _+_, _*_, _^_, _≤_, _<_, min}
+use Prim.Native.Nat.{ℕ, suc, _+_, _≤_, _<_, min}
 use native.Mathlib.Nat.{add-zero}
 use native.Mathlib.Omega.{arith}
 use mathlib.Core.Path.{_≡_, refl, sym, ap, _∙_}
 use mathlib.Core.Bool.{Bool, true, false}
-use mathlib.Core.List.{List, [], _∷_, _++_, append-assoc}
-use borrow.Author.Tests.{le-leb, lt-leb, leb-true, leb-false}
+use mathlib.Core.List.{List, [], _∷_, _++_}
+use borrow.Author.Tests.{leb-true, leb-false}
 use native.Mathlib.Numerals.{add-one}
 use lib.Dec.{leb}
 use lib.ListN.{length, length-append, length-set, set, getD, take}
-use lib.Seq.{sets, set-out, length-sets, take-suc, take-all, sets-eq}
-use Rattle.text.specs.Text.{last, Put, page, pushed, Pushes}
+use lib.Seq.{sets, set-out, length-sets, take-suc, take-all}
+use Rattle.text.specs.Text.{last, Put}
 
 sets-append : (o : List ℕ) (at : ℕ) (a b : List ℕ) → sets o at (a ++ b) ≡ sets (sets o at a) (at + length a) b
 sets-append o at [] b = rw add-zero refl
@@ -72,25 +71,3 @@ put-more o p q at m n i w h f g = rw (add-one, take-suc w i 0) (f then g)
 pub put-whole : (o p : List ℕ) (at m i : ℕ) (w : List ℕ) → length w ≤ i → Put o at (take i w) p m
     → Put o at w p m
 put-whole o p at m i w h f = rw (take-all i w h) at f
-
--- ---- all or nothing
-module _ (o : List ℕ) (at : ℕ) (w : List ℕ) (s t : List ℕ) (e : ℕ) (f : Put s at w t e) where
-  pub push-fits : (p : List ℕ) (m : ℕ) → length o * 1 < 2 ^ 63 → e ≤ length o → Put o at w p m
-      → page p (record { at = e; ok = true }) ≡ pushed o at w
-  unfolding pushed
-  push-fits p m h k g =
-      let fits : at + length w ≤ length o = omega (arith, f .place) in
-      let end : e ≡ at + length w = omega (arith, f .place) in
-      rw (le-leb _ _ fits, end, g .bytes)
-
-  pub push-full : length o < e → page o (record { at = at; ok = false }) ≡ pushed o at w
-  unfolding pushed
-  push-full k = let full : length o < at + length w = omega (arith, f .place) in rw (lt-leb _ _ full)
-
-pub pushes : Pushes
-unfolding pushed
-pushes =
-    record {
-      fits = λ o at w h. rw (le-leb _ _ h, sets-eq w o at h, append-assoc);
-      full = λ o at w h. rw (lt-leb _ _ h);
-    }

@@ -1,20 +1,12 @@
 // Text in a lent buffer. A `put` writes as far as the buffer goes and answers the place after its characters, also where
 // that is past the buffer's end: so puts follow one another with no test between them, and the last place tells whether
-// all of it fitted. A `push` (in `push`) writes all of its characters or none.
+// all of it fitted. Crate `text_push` has pushes, which write all of their characters or none.
 ghost use mathlib.Core.Path.{_≡_};
 ghost use mathlib.Core.List.{[], _∷_};
 ghost use Prim.Native.Nat.{_<_};
 ghost use Rattle.text.specs.Text.{Put};
 ghost use Rattle.text.specs.Numbers.{digit, decimal, places, pointed, magnitudeOf, signed, signedPlaces};
 ghost use Rattle.text.specs.Numbers.{hexDigit, hexWith, hex, smallHex};
-
-pub mod push;
-
-// The place after what was pushed; or, where it did not fit, the place where it was to be.
-pub struct Pos {
-    pub at: usize,
-    pub ok: bool,
-}
 
 // One character.
 pub fn put_byte(out: &mut [u8], at: usize, byte: u8) -> usize

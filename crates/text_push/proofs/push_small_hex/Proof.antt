@@ -1,8 +1,8 @@
-use Rattle.text.proofs.Puts.{push-fits, push-full}
+use Rattle.text_push.proofs.Pushes.{push-fits, push-full}
 use Rattle.text.proofs.Hex.{small-hexes}
 use borrow.Author.Needs.{needs}
-use Rattle.text.proofs.push.push_small_hex.Statement.{statement}
-use Rattle.text.proofs.push.push_small_hex.Tie as tie
+use Rattle.text_push.proofs.push_small_hex.Statement.{statement}
+use Rattle.text_push.proofs.push_small_hex.Tie as tie
 
 slice-aggregate-put-small-hex : tie.Need-slice-aggregate-put-small-hex
 slice-aggregate-put-small-hex c = search needs

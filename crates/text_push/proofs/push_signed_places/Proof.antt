@@ -1,9 +1,9 @@
 use mir.Syntax.{w64}
 use mir.ValLaws.{toZ-ofZ}
-use Rattle.text.proofs.Puts.{push-fits, push-full}
+use Rattle.text_push.proofs.Pushes.{push-fits, push-full}
 use borrow.Author.Needs.{needs}
-use Rattle.text.proofs.push.push_signed_places.Statement.{statement}
-use Rattle.text.proofs.push.push_signed_places.Tie as tie
+use Rattle.text_push.proofs.push_signed_places.Statement.{statement}
+use Rattle.text_push.proofs.push_signed_places.Tie as tie
 
 slice-aggregate-put-signed-places : tie.Need-slice-aggregate-put-signed-places
 slice-aggregate-put-signed-places c = search needs

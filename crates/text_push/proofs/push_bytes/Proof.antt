@@ -1,7 +1,7 @@
-use Rattle.text.proofs.Puts.{push-fits, push-full, pushes}
+use Rattle.text_push.proofs.Pushes.{push-fits, push-full, pushes}
 use borrow.Author.Needs.{needs}
-use Rattle.text.proofs.push.push_bytes.Statement.{statement}
-use Rattle.text.proofs.push.push_bytes.Tie as tie
+use Rattle.text_push.proofs.push_bytes.Statement.{statement}
+use Rattle.text_push.proofs.push_bytes.Tie as tie
 
 slice-aggregate-put-bytes : tie.Need-slice-aggregate-put-bytes
 slice-aggregate-put-bytes c = search needs

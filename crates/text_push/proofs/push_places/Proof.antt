@@ -1,8 +1,8 @@
-use Rattle.text.proofs.Puts.{push-fits, push-full}
+use Rattle.text_push.proofs.Pushes.{push-fits, push-full}
 use Rattle.text.proofs.Point.{all-places}
 use borrow.Author.Needs.{needs}
-use Rattle.text.proofs.push.push_places.Statement.{statement}
-use Rattle.text.proofs.push.push_places.Tie as tie
+use Rattle.text_push.proofs.push_places.Statement.{statement}
+use Rattle.text_push.proofs.push_places.Tie as tie
 
 slice-aggregate-put-places : tie.Need-slice-aggregate-put-places
 slice-aggregate-put-places c = search needs

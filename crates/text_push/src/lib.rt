@@ -1,17 +1,22 @@
 // Text in a lent buffer, all or nothing: a `push` that does not fit is refused and leaves every byte. Each first puts its
 // characters into a buffer of one byte, which tells where they end.
 ghost use mathlib.Core.Path.{_≡_};
-ghost use Rattle.text.specs.Text.{page, pushed, Pushes};
+ghost use Rattle.text_push.specs.Pushed.{page, pushed, Pushes};
 ghost use Rattle.text.specs.Numbers.{decimal, Decimals, places, Places, signed, Signs, signedPlaces};
 ghost use Rattle.text.specs.Numbers.{capital, small, hex, smallHex, Hexes};
-use crate::Pos;
-use crate::put_bytes;
-use crate::put_decimal;
-use crate::put_hex;
-use crate::put_places;
-use crate::put_signed;
-use crate::put_signed_places;
-use crate::put_small_hex;
+use text::put_bytes;
+use text::put_decimal;
+use text::put_hex;
+use text::put_places;
+use text::put_signed;
+use text::put_signed_places;
+use text::put_small_hex;
+
+// The place after what was pushed; or, where it did not fit, the place where it was to be.
+pub struct Pos {
+    pub at: usize,
+    pub ok: bool,
+}
 
 // The bytes of a word.
 pub fn push_bytes(out: &mut [u8], at: usize, word: &[u8]) -> Pos

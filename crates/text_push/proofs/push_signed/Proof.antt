@@ -1,10 +1,10 @@
 use mir.Syntax.{w64}
 use mir.ValLaws.{toZ-ofZ}
-use Rattle.text.proofs.Puts.{push-fits, push-full}
+use Rattle.text_push.proofs.Pushes.{push-fits, push-full}
 use Rattle.text.proofs.Sign.{signs}
 use borrow.Author.Needs.{needs}
-use Rattle.text.proofs.push.push_signed.Statement.{statement}
-use Rattle.text.proofs.push.push_signed.Tie as tie
+use Rattle.text_push.proofs.push_signed.Statement.{statement}
+use Rattle.text_push.proofs.push_signed.Tie as tie
 
 slice-aggregate-put-signed : tie.Need-slice-aggregate-put-signed
 slice-aggregate-put-signed c = search needs

@@ -1,8 +1,8 @@
-use Rattle.text.proofs.Puts.{push-fits, push-full}
+use Rattle.text_push.proofs.Pushes.{push-fits, push-full}
 use Rattle.text.proofs.Decimal.{decimals}
 use borrow.Author.Needs.{needs}
-use Rattle.text.proofs.push.push_decimal.Statement.{statement}
-use Rattle.text.proofs.push.push_decimal.Tie as tie
+use Rattle.text_push.proofs.push_decimal.Statement.{statement}
+use Rattle.text_push.proofs.push_decimal.Tie as tie
 
 slice-aggregate-put-decimal : tie.Need-slice-aggregate-put-decimal
 slice-aggregate-put-decimal c = search needs

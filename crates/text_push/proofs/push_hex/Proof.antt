@@ -1,8 +1,8 @@
-use Rattle.text.proofs.Puts.{push-fits, push-full}
+use Rattle.text_push.proofs.Pushes.{push-fits, push-full}
 use Rattle.text.proofs.Hex.{capital-hexes}
 use borrow.Author.Needs.{needs}
-use Rattle.text.proofs.push.push_hex.Statement.{statement}
-use Rattle.text.proofs.push.push_hex.Tie as tie
+use Rattle.text_push.proofs.push_hex.Statement.{statement}
+use Rattle.text_push.proofs.push_hex.Tie as tie
 
 slice-aggregate-put-hex : tie.Need-slice-aggregate-put-hex
 slice-aggregate-put-hex c = search needs

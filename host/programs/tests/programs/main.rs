@@ -8,6 +8,7 @@
 mod common;
 
 mod commands;
+mod failures;
 mod logs;
 mod plan;
 mod program;

@@ -15,7 +15,7 @@ pub fn top() -> PathBuf {
 }
 
 /// A program that `rt check` has built.
-fn built(name: &str) -> Command {
+pub fn built(name: &str) -> Command {
     let program = top().join("target/bin").join(name);
     assert!(
         program.is_file(),

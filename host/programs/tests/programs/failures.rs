@@ -1,0 +1,85 @@
+//! What fails is told, and not taken for success: output that can't be written, a log
+//! that can't be read, before any of it or after a part.
+
+use crate::program::{built, hold_text, top};
+use std::fs::{self, File, OpenOptions};
+use std::io::Write;
+use std::process::{Command, Output, Stdio};
+
+/// A device that takes no byte.
+fn full() -> File {
+    let device = OpenOptions::new().write(true).open("/dev/full");
+    device.expect("the device is there")
+}
+
+fn run(command: &mut Command) -> Output {
+    command.output().expect("the program runs")
+}
+
+fn bundled_day() -> File {
+    File::open(top().join("examples/cabinet-day.log")).expect("the bundled log")
+}
+
+#[test]
+fn replay_tells_that_its_lines_were_not_written() {
+    let found = run(built("replay").stdin(bundled_day()).stdout(full()));
+    let told = b"replay: standard output: No space left on device\n";
+    hold_text(&found.stderr, told, "errors");
+}
+
+/// More lines than its buffer holds: it ends at the first that can't be written.
+#[test]
+fn replay_tells_it_once() {
+    let day = fs::read(top().join("examples/cabinet-day.log")).expect("the bundled log");
+    let mut child = built("replay")
+        .stdin(Stdio::piped())
+        .stdout(full())
+        .spawn()
+        .expect("replay runs");
+    let mut input = child.stdin.take().expect("its input is a pipe");
+    // It may end before it has read all of this.
+    let _ = input.write_all(&day.repeat(200));
+    drop(input);
+    let found = child.wait_with_output().expect("replay ends");
+    let told = b"replay: standard output: No space left on device\n";
+    hold_text(&found.stderr, told, "errors");
+}
+
+#[test]
+fn plan_tells_that_its_lines_were_not_written() {
+    let found = run(built("plan").args(["4400", "3000"]).stdout(full()));
+    let told = b"plan: standard output: No space left on device\n";
+    hold_text(&found.stderr, told, "errors");
+}
+
+/// A folder can be opened and not read.
+#[test]
+fn replay_tells_that_its_log_was_not_read() {
+    let folder = File::open(top()).expect("the folder is opened");
+    let found = run(built("replay").stdin(folder));
+    hold_text(&found.stdout, b"", "output");
+    let told = b"replay: standard input: Is a directory\n";
+    hold_text(&found.stderr, told, "errors");
+}
+
+/// The lines of what was written before are whole, and in their order.
+#[test]
+fn plan_keeps_its_order_on_one_stream() {
+    let words = ["4400", "0", "3000", "fast", "1"];
+    let path = std::path::Path::new(env!("CARGO_TARGET_TMPDIR")).join("both-streams");
+    let both = File::create(&path).expect("a file for both streams");
+    let errors = both.try_clone().expect("the same file");
+    let status = built("plan")
+        .args(words)
+        .stdout(both)
+        .stderr(errors)
+        .status();
+    assert!(status.expect("plan runs").success());
+    let found = fs::read_to_string(&path).expect("what was written");
+    let starts: Vec<&str> = found
+        .lines()
+        .map(|line| line.split([' ', ':']).next().unwrap_or(""))
+        .collect();
+    assert_eq!(starts, words, "{found}");
+    fs::remove_file(&path).expect("the file is removed");
+}

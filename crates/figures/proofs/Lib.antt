@@ -1,0 +1,5 @@
+pub mod Order
+pub mod Wrapping
+pub mod FigureLaws
+pub mod CountLaws
+pub mod Examples

@@ -9,6 +9,10 @@ use Rattle.figures.specs.Figure.{lowBits, wrapped, figureOf, figureAfter
 use Rattle.figures.specs.BitCounts.{bitCountsFrom, bitCountsAfter, bitCountsOver, bytesWithBit}
 use Rattle.numbers.specs.TwosComplement.{signedOf}
 
+of-none : figureOf [] ≡ figure (pos 0) (pos 0) (pos 0)
+unfolding picked sumOf wrapped lowBits signedOf
+of-none = refl
+
 -- 3, -5, 7
 abbrev three : List ℤ
 three = pos 3 ∷ negsuc 4 ∷ pos 7 ∷ []

@@ -2,10 +2,11 @@
 use mathlib.Core.Path.{_≡_}
 use mathlib.Core.Logic.{_≢_}
 use mathlib.Core.List.{List, [], _∷_, _++_, List·Memᴰ}
-use Prim.Native.Nat.{ℕ, _-_, _*_, _%_, _^_, _≤_}
-use lib.Dec.{eqb}
+use Prim.Native.Nat.{ℕ, _+_, _-_, _*_, _%_, _^_, _≤_}
+use lib.Dec.{eqb, leb}
 use lib.IntN.{ℤ, pos, negsuc, natAbs, _+ℤ_}
-use lib.ListN.{length}
+use lib.ListN.{length, getD}
+use lib.Seq.{sets}
 use lib.Signed.{ltZ, _≤ℤ_}
 use Rattle.bits.specs.Bits.{choose}
 use Rattle.numbers.specs.TwosComplement.{signedOf}
@@ -68,6 +69,21 @@ figureAfter samples f z =
     choose (eqb samples 0)
     (figure z z (wrapped (f .sum +ℤ z)))
     (figure (lesser (f .least) z) (greater (f .greatest) z) (wrapped (f .sum +ℤ z)))
+
+-- ---- kept in a slice, from a place on
+
+abbrev pub figureAt : List ℤ → ℕ → Figure
+figureAt zs at = figure (getD zs at (pos 0)) (getD zs (at + 1) (pos 0)) (getD zs (at + 2) (pos 0))
+
+abbrev pub figureNumbers : Figure → List ℤ
+figureNumbers f = f .least ∷ f .greatest ∷ f .sum ∷ []
+
+-- one value more where it is kept; a slice that has not so many numbers stays
+unfoldable pub figureIn : List ℤ → ℕ → ℕ → ℤ → List ℤ
+figureIn zs at samples z =
+    choose (leb (at + 3) (length zs)) (sets zs at (figureNumbers (figureAfter samples (figureAt zs at) z))) zs
+
+-- ---- what figures mean
 
 -- no value is beyond 2 ^ 32 on either side
 abbrev pub Moderate : List ℤ → Type 0

@@ -3,7 +3,7 @@
 ghost use mathlib.Core.Path.{_≡_};
 ghost use lib.IntN.{_+ℤ_};
 ghost use Rattle.numbers.specs.TwosComplement.{signedOf, codeOf};
-ghost use Rattle.figures.specs.Figure.{half64, wrapped, lesser, greater, figureAfter, RunningFigures};
+ghost use Rattle.figures.specs.Figure.{half64, wrapped, lesser, greater, figureAfter, figureIn, RunningFigures};
 ghost use Rattle.figures.specs.BitCounts.{bitCountsAfter, BitCounts};
 
 const HALF: u64 = 0x8000_0000_0000_0000;
@@ -79,6 +79,31 @@ pub fn figure_after(samples: u64, figure: Figure, value: i64) -> Figure
         greatest,
         sum,
     }
+}
+
+// The same in place, where the three numbers of a figure are kept in a slice from a place on: least, greatest, sum. A
+// slice that has not so many stays.
+pub fn figure_in(figures: &mut [i64], at: usize, samples: u64, value: i64)
+    ensures { λ r. ⌜ now (figures .exit) ≡ figureIn (now (figures .entry)) at samples value ⌝ }
+{
+    if figures.len() < 3 {
+        return;
+    }
+    if at > figures.len() - 3 {
+        return;
+    }
+    let before = Figure {
+        least: figures[at],
+        greatest: figures[at + 1],
+        sum: figures[at + 2],
+    };
+    let after = figure_after(samples, before, value);
+    let least = after.least;
+    let greatest = after.greatest;
+    let sum = after.sum;
+    figures[at] = least;
+    figures[at + 1] = greatest;
+    figures[at + 2] = sum;
 }
 
 // One more in the counter of each bit that a byte has; the first counter is that of bit 0. It stops where no bit is

@@ -29,7 +29,7 @@ code-of-requires c κs = search needs
 
 cast-t6 : tie.Need-cast-t6
 cast-t6 c =
-    let z = read (c .before .before .before .args .halves) in
+    let z = read w16 (c .before .before .before .args .halves) in
     let h = held z (sym (c .before .before .is-outside .ensures) ∙ c .before .if1 .left) in
     record { fits = omega (arith, c .code-of .ensures, code-lt half9 z h) }
 
@@ -43,7 +43,7 @@ returns-2 : tie.Need-returns-2
 returns-2 c =
     let s = c .before .before .before in
     let z = s .args .halves in
-    let q : read z ≡ z = toZ-ofZ w16 z (s .fits .halves) in
+    let q : read w16 z ≡ z = toZ-ofZ w16 z (s .fits .halves) in
     let o : outside z ≡ false = sym (c .before .before .is-outside .ensures ∙ ap outside q) ∙ c .before .if1 .left in
     half-answered z _ (half-in z _ o (c .code-of .ensures ∙ ap (codeOf half9) q))
 

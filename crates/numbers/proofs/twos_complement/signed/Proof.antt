@@ -5,6 +5,7 @@ use mathlib.Core.Path.{ap, _∙_}
 use Rattle.numbers.specs.TwosComplement.{signedOf}
 use Rattle.numbers.proofs.twos_complement.Complement.{twos-complement-holds}
 use Rattle.numbers.proofs.twos_complement.Turned.{lower-signed, upper-fits, upper-signed, no-code}
+use mir.Syntax.{w16}
 use borrow.Author.Needs.{needs}
 use Rattle.numbers.proofs.twos_complement.signed.Statement.{statement}
 use Rattle.numbers.proofs.twos_complement.signed.Tie as tie
@@ -19,7 +20,7 @@ returns : tie.Need-returns
 returns c =
     let half = c .before .half-of in
     let code = c .before .before .args .code in (
-      lower-signed (half .result) code (half .ensures .2) (c .if1 .taken)
+      lower-signed w16 (half .result) code (half .ensures .2) (c .if1 .taken)
           ∙ ap (λ (h : ℕ). signedOf h code) (half .ensures .0),
       twos-complement-holds,
     )
@@ -37,13 +38,13 @@ sub-result-3 : tie.Need-sub-result-3
 sub-result-3 c =
     let half = c .before .before .half-of in
     let code = c .before .before .before .args .code in
-    upper-fits (half .result) code (half .ensures .2) (c .before .if1 .left) (c .if2 .taken)
+    upper-fits w16 (half .result) code (half .ensures .2) (c .before .if1 .left) (c .if2 .taken)
 
 returns-2 : tie.Need-returns-2
 returns-2 c =
     let half = c .before .before .half-of in
     let code = c .before .before .before .args .code in (
-      upper-signed (half .result) code (half .ensures .2) (c .before .if1 .left) (c .if2 .taken)
+      upper-signed w16 (half .result) code (half .ensures .2) (c .before .if1 .left) (c .if2 .taken)
           ∙ ap (λ (h : ℕ). signedOf h code) (half .ensures .0),
       twos-complement-holds,
     )

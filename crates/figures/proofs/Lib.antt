@@ -1,0 +1,6 @@
+pub mod Order
+pub mod Wrapping
+pub mod FigureLaws
+pub mod Kept
+pub mod CountLaws
+pub mod Examples

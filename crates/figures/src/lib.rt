@@ -1,0 +1,124 @@
+// Running figures of what comes one by one: the least, the greatest and the sum of values, and how many bytes had each
+// bit. Nothing here is of one chip.
+ghost use mathlib.Core.Path.{_≡_};
+ghost use lib.IntN.{_+ℤ_};
+ghost use Rattle.numbers.specs.TwosComplement.{signedOf, codeOf};
+ghost use Rattle.figures.specs.Figure.{half64, wrapped, lesser, greater, figureAfter, figureIn, RunningFigures};
+ghost use Rattle.figures.specs.BitCounts.{bitCountsAfter, BitCounts};
+
+const HALF: u64 = 0x8000_0000_0000_0000;
+
+// The figure of one reading. How many samples there were is kept once, beside the figures of all readings.
+pub struct Figure {
+    pub least: i64,
+    pub greatest: i64,
+    pub sum: i64,
+}
+
+// The 64 bits of a number, and back: a sum of these wraps. The compiler makes no instruction of either.
+fn code_of(z: i64) -> u64
+    ensures { λ r. ⌜ r ≡ codeOf half64 z ⌝ }
+{
+    if z < 0 {
+        let down = (-1 - z) as u64;
+        return HALF - 1 + HALF - down;
+    }
+    z as u64
+}
+
+fn signed(code: u64) -> i64
+    ensures { λ r. ⌜ r ≡ signedOf half64 code ⌝ }
+{
+    if code < HALF {
+        return code as i64;
+    }
+    let over = code - HALF;
+    -1 - (HALF - 1 - over) as i64
+}
+
+fn wrapping_add(a: i64, b: i64) -> i64
+    ensures { λ r. ⌜ r ≡ wrapped (a +ℤ b) ⌝ }
+{
+    signed(std::num::wrapping_add_u64(code_of(a), code_of(b)))
+}
+
+fn lesser_of(a: i64, b: i64) -> i64
+    ensures { λ r. ⌜ r ≡ lesser a b ⌝ }
+{
+    if b < a {
+        return b;
+    }
+    a
+}
+
+fn greater_of(a: i64, b: i64) -> i64
+    ensures { λ r. ⌜ r ≡ greater a b ⌝ }
+{
+    if a < b {
+        return b;
+    }
+    a
+}
+
+// The figure after one value more, by how many samples there were before it.
+pub fn figure_after(samples: u64, figure: Figure, value: i64) -> Figure
+    ensures { λ r. ⌜ (r ≡ figureAfter samples figure value) × RunningFigures ⌝ }
+{
+    let sum = wrapping_add(figure.sum, value);
+    if samples == 0 {
+        return Figure {
+            least: value,
+            greatest: value,
+            sum,
+        };
+    }
+    let least = lesser_of(figure.least, value);
+    let greatest = greater_of(figure.greatest, value);
+    Figure {
+        least,
+        greatest,
+        sum,
+    }
+}
+
+// The same in place, where the three numbers of a figure are kept in a slice from a place on: least, greatest, sum. A
+// slice that has not so many stays.
+pub fn figure_in(figures: &mut [i64], at: usize, samples: u64, value: i64)
+    ensures { λ r. ⌜ now (figures .exit) ≡ figureIn (now (figures .entry)) at samples value ⌝ }
+{
+    if figures.len() < 3 {
+        return;
+    }
+    if at > figures.len() - 3 {
+        return;
+    }
+    let before = Figure {
+        least: figures[at],
+        greatest: figures[at + 1],
+        sum: figures[at + 2],
+    };
+    let after = figure_after(samples, before, value);
+    let least = after.least;
+    let greatest = after.greatest;
+    let sum = after.sum;
+    figures[at] = least;
+    figures[at + 1] = greatest;
+    figures[at + 2] = sum;
+}
+
+// One more in the counter of each bit that a byte has; the first counter is that of bit 0. It stops where no bit is
+// left, since most bytes have none.
+pub fn count_bits(counts: &mut [u64], byte: u8)
+    ensures { λ r. ⌜ (now (counts .exit) ≡ bitCountsAfter (now (counts .entry)) byte) × BitCounts ⌝ }
+{
+    let mut rest = byte;
+    let mut i = 0;
+    while i < counts.len() {
+        if rest == 0 {
+            return;
+        }
+        counts[i] = std::num::wrapping_add_u64(counts[i], (rest % 2) as u64);
+        rest = rest / 2;
+        i += 1;
+    }
+}

@@ -1,6 +1,5 @@
-// Sessions with a monitor, each from power-on: a driver's on the bus, one of samples, one of plans.
+// Sessions with a monitor, each from power-on: a driver's on the bus, and one of samples.
 // A line for each step; what it must say follows from the rules, and each module gives it.
-mod alarms;
 mod bus;
 mod lines;
 mod samples;
@@ -8,5 +7,4 @@ mod samples;
 fn main() {
     bus::session();
     samples::session();
-    alarms::session();
 }

@@ -18,11 +18,12 @@
 //   3 slow           back from standby: 254 rings and 253 doesn't.
 //   refused          fan 4, and fan 0 at speed 0: 7; fan 3 at 0 and at 1,350,001: 6. Nothing changes.
 //   reset            40h 80h: power-on values again, and fan 3 rings by d 2 and limit 0: u 1 is 0 by 2, u 2 is 1.
-use crate::lines::flag;
-use crate::lines::hex;
-use crate::lines::print_answer;
-use crate::lines::text;
 use fan::Undivided;
+use libc::STDOUT_FILENO;
+use text::put_byte;
+use text::put_bytes;
+use text::put_decimal;
+use text::put_small_hex;
 use w83782d::Monitor;
 use w83782d_record::samples::Sample;
 
@@ -36,40 +37,72 @@ fn select(m: Monitor, bank: u8) -> Monitor {
     done.monitor
 }
 
-// The byte that an index shows, after a space.
-fn spaced(m: Monitor, index: u8) {
-    text(b" ");
-    hex(byte_at(m, index));
+// ---- Parts of a line: each is put at a place, and answers the next
+
+// The byte that an index shows, after a label and a space.
+fn put_shown(out: &mut [u8], at: usize, label: &[u8], byte: u8) -> usize {
+    let next = put_bytes(out, at, label);
+    put_small_hex(out, next, byte)
 }
 
 // The registers that a plan writes, of a copy: what is shown clears nothing and selects no bank.
-fn settings(m: Monitor) {
+fn put_settings(out: &mut [u8], at: usize, m: Monitor) -> usize {
     let zero = select(m, 0);
-    text(b", 47h");
-    spaced(m, 0x47);
-    text(b", 4Bh");
-    spaced(m, 0x4b);
-    text(b", 5Dh");
-    spaced(zero, 0x5d);
-    text(b", limits");
-    spaced(m, 0x3b);
-    spaced(m, 0x3c);
-    spaced(m, 0x3d);
+    let mut next = put_shown(out, at, b", 47h ", byte_at(m, 0x47));
+    next = put_shown(out, next, b", 4Bh ", byte_at(m, 0x4b));
+    put_shown(out, next, b", 5Dh ", byte_at(zero, 0x5d))
+}
+
+fn put_limits(out: &mut [u8], at: usize, m: Monitor) -> usize {
+    let mut next = put_shown(out, at, b", limits ", byte_at(m, 0x3b));
+    next = put_shown(out, next, b" ", byte_at(m, 0x3c));
+    put_shown(out, next, b" ", byte_at(m, 0x3d))
+}
+
+fn put_flag(out: &mut [u8], at: usize, on: bool) -> usize {
+    if on {
+        return put_bytes(out, at, b" 1");
+    }
+    put_bytes(out, at, b" 0")
+}
+
+fn put_rings(out: &mut [u8], at: usize, m: Monitor) -> usize {
+    let four = select(m, 4);
+    let first = byte_at(four, 0x59);
+    let second = byte_at(four, 0x5a);
+    let mut next = put_bytes(out, at, b", rings");
+    next = put_flag(out, next, first & 0x40 != 0);
+    next = put_flag(out, next, first & 0x80 != 0);
+    put_flag(out, next, second & 0x08 != 0)
+}
+
+fn put_step(out: &mut [u8], name: &[u8], answer: u8) -> usize {
+    let mut next = put_bytes(out, 0, name);
+    next = put_bytes(out, next, b": answer ");
+    put_decimal(out, next, answer as u64)
+}
+
+fn put_report(out: &mut [u8], m: Monitor, name: &[u8], answer: u8) -> usize {
+    let mut next = put_step(out, name, answer);
+    next = put_settings(out, next, m);
+    next = put_limits(out, next, m);
+    next = put_rings(out, next, m);
+    put_byte(out, next, b'\n')
+}
+
+fn write_line(line: &[u8], end: usize) {
+    if end <= line.len() {
+        io::write_all(STDOUT_FILENO, &line[0..end]);
+    }
 }
 
 fn report(m: Monitor, name: &[u8], answer: u8) {
-    text(name);
-    print_answer(answer);
-    settings(m);
-    let four = select(m, 4);
-    let first = byte_at(four, 0x59);
-    text(b", rings");
-    let second = byte_at(four, 0x5a);
-    flag(first & 0x40 != 0);
-    flag(first & 0x80 != 0);
-    flag(second & 0x08 != 0);
-    text(b"\n");
+    let mut line = io::buffer();
+    let end = put_report(&mut line, m, name, answer);
+    write_line(&line, end);
 }
+
+// ---- Steps
 
 fn plan(m: Monitor, name: &[u8], fan: u8, rpm: u32) -> Monitor {
     let done = m.set_plan(fan, rpm);
@@ -154,7 +187,7 @@ fn refused(start: Monitor) -> Monitor {
     m
 }
 
-pub fn session() {
+fn main() {
     let mut m = two_fans(Monitor::power_on());
     m = rewritten(m);
     m = aliased(m);

@@ -19,7 +19,7 @@ const SPEEDS: usize = 2_000;
 /// Rounds of each program, by turns.
 const ROUNDS: usize = 9;
 
-/// Runs for its memory: one may be over before it is looked at.
+/// Runs for its memory, of which the largest is told.
 const LOOKS: usize = 5;
 
 /// A row of the table: a program and what it is given.

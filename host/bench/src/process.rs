@@ -2,8 +2,8 @@
 
 use std::ffi::{c_int, c_long};
 use std::fs;
-use std::io::Error;
-use std::process::{Child, Command};
+use std::io::{Error, Read};
+use std::process::{Child, Command, Stdio};
 use std::time::Duration;
 
 /// Runs a program to its end. How long it ran, from its start to its end, without
@@ -14,15 +14,21 @@ pub fn time(command: &mut Command) -> Duration {
 }
 
 /// Runs a program to its end. Its largest resident set in KiB, as it was seen last
-/// while it ran. `wait4` tells one too, but of the process that started it where
-/// that one's is larger.
+/// before a part of its output was taken: it waits with the next one meanwhile, so
+/// that a short run is seen too. `wait4` tells one as well, but of the process that
+/// started it where that one's is larger.
 pub fn memory(command: &mut Command) -> u64 {
-    let child = start(command);
+    let mut child = start(command.stdout(Stdio::piped()));
     let status = format!("/proc/{}/status", child.id());
+    let mut output = child.stdout.take().expect("its output is a pipe");
+    let mut part = [0; 4096];
     let mut largest = 0;
-    // It is not there any more once the process has ended.
-    while let Some(now) = largest_set(&status) {
-        largest = now;
+    loop {
+        // It is not there any more once the process has ended.
+        largest = largest_set(&status).map_or(largest, |now| now.max(largest));
+        if output.read(&mut part).expect("the pipe is read") == 0 {
+            break;
+        }
     }
     end(child);
     largest

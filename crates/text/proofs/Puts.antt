@@ -11,7 +11,7 @@ use native.Mathlib.Numerals.{add-one}
 use lib.Dec.{leb}
 use lib.ListN.{length, length-append, length-set, set, getD, take}
 use lib.Seq.{sets, set-out, length-sets, take-suc, take-all}
-use Rattle.text.specs.Text.{last, Put}
+use Rattle.text.specs.Text.{lastPlace, Put}
 
 sets-append : (o : List ℕ) (at : ℕ) (a b : List ℕ) → sets o at (a ++ b) ≡ sets (sets o at a) (at + length a) b
 sets-append o at [] b = rw add-zero refl
@@ -25,14 +25,14 @@ sets-out o at [] h = refl
 sets-out o at (x ∷ w) h = sets-out (set o at x) (suc at) w (simp length-set (omega arith)) ∙ set-out o at x h
 
 -- from the place that is answered, as from the place itself
-sets-from : (o : List ℕ) (at next : ℕ) (w : List ℕ) → length o ≤ last → next ≡ min at last
+sets-from : (o : List ℕ) (at next : ℕ) (w : List ℕ) → length o ≤ lastPlace → next ≡ min at lastPlace
     → sets o next w ≡ sets o at w
-sets-from o at next w h e = go (leb at last) refl
+sets-from o at next w h e = go (leb at lastPlace) refl
   where
-    go : (b : Bool) → leb at last ≡ b → sets o next w ≡ sets o at w
-    go true t = let k : next ≡ at = omega (arith, leb-true at last t) in rw k refl
+    go : (b : Bool) → leb at lastPlace ≡ b → sets o next w ≡ sets o at w
+    go true t = let k : next ≡ at = omega (arith, leb-true at lastPlace t) in rw k refl
     go false t =
-        let far = leb-false at last t in
+        let far = leb-false at lastPlace t in
         sets-out o next w (omega arith) ∙ sym (sets-out o at w (omega arith))
 
 infixr 20 _then_
@@ -52,15 +52,15 @@ pub put-length : (o p : List ℕ) (at n : ℕ) (w : List ℕ) → Put o at w p n
 put-length o p at n w f = ap length (f .bytes) ∙ simp length-sets
 
 -- no character
-pub put-none : (o : List ℕ) (at : ℕ) → length o ≤ last → at ≤ last → Put o at [] o at
+pub put-none : (o : List ℕ) (at : ℕ) → length o ≤ lastPlace → at ≤ lastPlace → Put o at [] o at
 put-none o at h k = record { bytes = refl; place = omega arith; sized = h }
 
 -- one character past the end, and at the last place
 module _ (o : List ℕ) (at x : ℕ) where
-  pub put-past : length o ≤ at → at < last → Put o at (x ∷ []) o (at + 1)
+  pub put-past : length o ≤ at → at < lastPlace → Put o at (x ∷ []) o (at + 1)
   put-past h k = record { bytes = sym (set-out o at x h); place = omega arith; sized = omega arith }
 
-  pub put-last : length o ≤ at → at ≡ last → Put o at (x ∷ []) o at
+  pub put-last : length o ≤ at → at ≡ lastPlace → Put o at (x ∷ []) o at
   put-last h k = record { bytes = sym (set-out o at x h); place = omega arith; sized = omega arith }
 
 -- one character more of a word

@@ -13,12 +13,12 @@ ascii noText = []
 ascii (c before s) = code c ∷ ascii s
 
 -- the last place that there is
-abbrev pub last : ℕ
-last = 18446744073709551615
+abbrev pub lastPlace : ℕ
+lastPlace = 18446744073709551615
 
 -- the word w is put into the buffer o from a place on, as far as the buffer goes: p is what it holds then, and next the
 -- place after the word, which may be past the buffer's end
 pub record Put (o : List ℕ) (at : ℕ) (w : List ℕ) (p : List ℕ) (next : ℕ) : Type 0 where
   pub bytes : p ≡ sets o at w
-  pub place : next ≡ min (at + length w) last
-  pub sized : length o ≤ last
+  pub place : next ≡ min (at + length w) lastPlace
+  pub sized : length o ≤ lastPlace

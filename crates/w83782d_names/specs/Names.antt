@@ -30,8 +30,8 @@ find (r ∷ rs) i = choose (eqb i (r .index)) (r .name) (find rs i)
 -- ---- in every bank
 
 -- 20h to 3Fh: readings and limits
-unfoldable pub readings : List Named
-readings =
+unfoldable pub readingNames : List Named
+readingNames =
     0x20 is "VCOREA"
     ∷ 0x21 is "VINR0"
     ∷ 0x22 is "+3.3V"
@@ -65,8 +65,8 @@ readings =
     ∷ []
 
 -- 40h to 4Fh: status, masks, control
-unfoldable pub controls : List Named
-controls =
+unfoldable pub controlNames : List Named
+controlNames =
     0x40 is "configuration"
     ∷ 0x41 is "interrupt status 1"
     ∷ 0x42 is "interrupt status 2"
@@ -86,8 +86,8 @@ controls =
 
 -- ---- 50h to 5Fh, by the bank
 
-unfoldable pub bank0 : List Named
-bank0 =
+unfoldable pub bank0Names : List Named
+bank0Names =
     0x56 is "beep control 1"
     ∷ 0x57 is "beep control 2"
     ∷ 0x58 is "chip ID"
@@ -100,8 +100,8 @@ bank0 =
     ∷ 0x5F is "PWM 4 duty"
     ∷ []
 
-unfoldable pub bank1 : List Named
-bank1 =
+unfoldable pub bank1Names : List Named
+bank1Names =
     0x50 is "temperature 2 high byte"
     ∷ 0x51 is "temperature 2 low byte"
     ∷ 0x52 is "temperature 2 configuration"
@@ -111,8 +111,8 @@ bank1 =
     ∷ 0x56 is "temperature 2 over limit low byte"
     ∷ []
 
-unfoldable pub bank2 : List Named
-bank2 =
+unfoldable pub bank2Names : List Named
+bank2Names =
     0x50 is "temperature 3 high byte"
     ∷ 0x51 is "temperature 3 low byte"
     ∷ 0x52 is "temperature 3 configuration"
@@ -122,8 +122,8 @@ bank2 =
     ∷ 0x56 is "temperature 3 over limit low byte"
     ∷ []
 
-unfoldable pub bank4 : List Named
-bank4 =
+unfoldable pub bank4Names : List Named
+bank4Names =
     0x59 is "real time status 1"
     ∷ 0x5A is "real time status 2"
     ∷ []
@@ -131,20 +131,20 @@ bank4 =
 -- M-3: there is no bank 3, nor one above 4
 unfoldable pub banked : ℕ → ℕ → String
 banked b i =
-    choose (eqb b 0) (find bank0 i)
-    (choose (eqb b 1) (find bank1 i)
-    (choose (eqb b 2) (find bank2 i)
-    (choose (eqb b 4) (find bank4 i)
+    choose (eqb b 0) (find bank0Names i)
+    (choose (eqb b 1) (find bank1Names i)
+    (choose (eqb b 2) (find bank2Names i)
+    (choose (eqb b 4) (find bank4Names i)
     "no such bank")))
 
 -- ---- of any index; M-2: 60h to 7Fh are 20h to 3Fh
 unfoldable pub nameIn : ℕ → ℕ → String
 nameIn b i =
     choose (ltb i 0x20) noRegister
-    (choose (ltb i 0x40) (find readings i)
-    (choose (ltb i 0x50) (find controls i)
+    (choose (ltb i 0x40) (find readingNames i)
+    (choose (ltb i 0x50) (find controlNames i)
     (choose (ltb i 0x60) (banked b i)
-    (choose (ltb i 0x80) (find readings (i - 0x40))
+    (choose (ltb i 0x80) (find readingNames (i - 0x40))
     noRegister))))
 
 unfoldable pub nameOf : ℕ → ℕ → List ℕ

@@ -4,7 +4,7 @@
 ghost use Prim.Native.Nat.{_+_, _*_, _≤_, _<_};
 ghost use lib.ListN.{length};
 ghost use Rattle.text.specs.Text.{ascii, Put};
-ghost use Rattle.w83782d_names.specs.Names.{find, readings, controls, bank0, bank4, banked, nameOf, Names};
+ghost use Rattle.w83782d_names.specs.Names.{find, readingNames, controlNames, bank0Names, bank4Names, banked, nameOf, Names};
 ghost use Rattle.w83782d_names.specs.Rows.{rowOf, trimmed, EndOf, sensorName};
 use text::put_bytes;
 
@@ -137,21 +137,21 @@ fn put_row(out: &mut [u8], at: usize, table: &[u8], width: u8, row: u8) -> usize
 
 fn put_reading(out: &mut [u8], at: usize, index: u8) -> usize
     requires { ⌜ (0x20 ≤ index) × (index < 0x40) ⌝ }
-    ensures { λ r. ⌜ Put (now (out .entry)) at (ascii (find readings index)) (now (out .exit)) r ⌝ }
+    ensures { λ r. ⌜ Put (now (out .entry)) at (ascii (find readingNames index)) (now (out .exit)) r ⌝ }
 {
     put_row(out, at, &READINGS, 24, index - 0x20)
 }
 
 fn put_control(out: &mut [u8], at: usize, index: u8) -> usize
     requires { ⌜ (0x40 ≤ index) × (index < 0x50) ⌝ }
-    ensures { λ r. ⌜ Put (now (out .entry)) at (ascii (find controls index)) (now (out .exit)) r ⌝ }
+    ensures { λ r. ⌜ Put (now (out .entry)) at (ascii (find controlNames index)) (now (out .exit)) r ⌝ }
 {
     put_row(out, at, &CONTROLS, 27, index - 0x40)
 }
 
 fn put_bank_0(out: &mut [u8], at: usize, index: u8) -> usize
     requires { ⌜ (0x50 ≤ index) × (index < 0x60) ⌝ }
-    ensures { λ r. ⌜ Put (now (out .entry)) at (ascii (find bank0 index)) (now (out .exit)) r ⌝ }
+    ensures { λ r. ⌜ Put (now (out .entry)) at (ascii (find bank0Names index)) (now (out .exit)) r ⌝ }
 {
     put_row(out, at, &BANK_0, 25, index - 0x50)
 }
@@ -170,7 +170,7 @@ fn put_sensor(out: &mut [u8], at: usize, sensor: &[u8], index: u8) -> usize
 
 fn put_bank_4(out: &mut [u8], at: usize, index: u8) -> usize
     requires { ⌜ (0x50 ≤ index) × (index < 0x60) ⌝ }
-    ensures { λ r. ⌜ Put (now (out .entry)) at (ascii (find bank4 index)) (now (out .exit)) r ⌝ }
+    ensures { λ r. ⌜ Put (now (out .entry)) at (ascii (find bank4Names index)) (now (out .exit)) r ⌝ }
 {
     put_row(out, at, &BANK_4, 18, index - 0x50)
 }

@@ -1,5 +1,5 @@
 use Rattle.w83782d_names.proofs.Tables.{put-named}
-use Rattle.w83782d_names.specs.Names.{bank4}
+use Rattle.w83782d_names.specs.Names.{bank4Names}
 use Rattle.w83782d_names.specs.Rows.{trimmed}
 use borrow.Author.Needs.{needs}
 use Rattle.w83782d_names.proofs.put_bank_4.Statement.{statement}
@@ -18,11 +18,11 @@ same-length : tie.Need-same-length
 same-length c = search needs
 
 returns : tie.Need-returns
-unfolding bank4 trimmed
+unfolding bank4Names trimmed
 returns c =
     let call = c .before .before in
     let start = call .before .before .before .before in
-    put-named 0x50 18 16 bank4 (start .args .index) (start .pre) _ _ _ _ _ (call .put-row .ensures) tt
+    put-named 0x50 18 16 bank4Names (start .args .index) (start .pre) _ _ _ _ _ (call .put-row .ensures) tt
 
 pub put-bank-4-spec : {M : Type 1} → statement M
 put-bank-4-spec =

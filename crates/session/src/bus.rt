@@ -94,7 +94,7 @@ fn chassis_and_reset(start: Monitor) -> Monitor {
     m
 }
 
-pub fn session() {
+pub(crate) fn session() {
     let mut m = Monitor::power_on();
     m = detect(m);
     m = banks(m);

@@ -1,19 +1,19 @@
 // The parts of a line that the sessions share.
 use libc::STDOUT_FILENO;
 
-pub fn text(line: &[u8]) {
+pub(crate) fn text(line: &[u8]) {
     io::write_all(STDOUT_FILENO, line);
 }
 
-pub fn hex(byte: u8) {
+pub(crate) fn hex(byte: u8) {
     io::print_hex(STDOUT_FILENO, byte as u64, 2);
 }
 
-pub fn number(n: u64) {
+pub(crate) fn number(n: u64) {
     io::print_decimal(STDOUT_FILENO, n);
 }
 
-pub fn flag(on: bool) {
+pub(crate) fn flag(on: bool) {
     if on {
         text(b" 1");
         return;
@@ -21,7 +21,7 @@ pub fn flag(on: bool) {
     text(b" 0");
 }
 
-pub fn print_answer(answer: u8) {
+pub(crate) fn print_answer(answer: u8) {
     text(b": answer ");
     number(answer as u64);
 }

@@ -1,5 +1,5 @@
 -- What is claimed of a sample, from every state of the monitor and for every sample, refused or not (rules S-1 to S-10, T, I, O).
--- The definitions are those that the contracts cite (w83782d_sample: Conditions.antt, Sample.antt; w83782d_readings: Outputs.antt).
+-- The definitions are those that the contracts cite (w83782d_conditions: Conditions.antt; w83782d_sample: Stored.antt, Sample.antt; w83782d_readings: Outputs.antt).
 use mathlib.Core.Path.{_≡_}
 use mathlib.Core.Bool.{Bool, true, false, not, _&&_, _||_}
 use mathlib.Core.List.{List, [], _∷_}

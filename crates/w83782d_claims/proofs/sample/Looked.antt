@@ -2,11 +2,11 @@
 -- no bit without a rule, and not at 41h and 42h, into which it latches. Assumes nothing.
 use mathlib.Core.Path.{_≡_, refl, ap, sym, subst, _∙_}
 use mathlib.Core.Bool.{Bool, true, false, not, _||_, false≢true}
-use mathlib.Core.List.{List}
+use mathlib.Core.List.{List, map}
 use Prim.Native.Nat.{ℕ, _+_, _-_, _<_, _≤_}
 use lib.Dec.{eqb, ltb, lit<, lit≤}
 use lib.ListN.{getD}
-use Rattle.bits.specs.Bits.{bit, isOn, choose}
+use Rattle.bits.specs.Bits.{bit, isOn, choose, word}
 use Rattle.bits.specs.Stores.{Store, puts}
 use Rattle.bits.specs.declared.fields.Place.{Place}
 use Rattle.bits.proofs.ChangeLaws.{and-left, and-right}
@@ -26,8 +26,8 @@ use Rattle.w83782d_registers.proofs.Cases.{both}
 use Rattle.w83782d_sample.specs.Stored.{none, divisorPlaces, divisorOf, storedCount, readings, storedReadings, sampleAnswer}
 use Rattle.w83782d_conditions.specs.Conditions.{isOutside, isAbove, isBelow, isSlow, statusMode, outputMode}
 use Rattle.w83782d_conditions.proofs.Rules.{not-one}
-use Rattle.w83782d_sample.specs.Sample.{firstByte, secondByte, statusAt, outputAt, remoteAfter, realTimeByte, latchedBy, latchedByte, statusStores, steppedLatches}
-use Rattle.w83782d_sample.specs.Sample.Source.{sensor}
+use Rattle.w83782d_sample.specs.Sample.{Source, condition, firstByte, secondByte, statusAt, outputAt, remoteAfter, realTimeByte, latchedBy, latchedByte, statusStores, steppedLatches}
+use Rattle.w83782d_sample.specs.Sample.Source.{rail, sensor, fan, chassis}
 use Rattle.w83782d_claims.specs.SampleClaims.{ruleless}
 
 -- ---- the bits of a register that it does not look at
@@ -132,56 +132,56 @@ module _ (rs ts : List ℕ) (e : Seen rs ts) where
   unfolding outputAt
   remote-same l n h k = rw (status-same l n (above-n n h k) (below-n n h k), output-mode n h k, above-n n h k, below-n n h k)
 
-  -- ---- both bytes: real time, and latched
+  -- ---- both bytes, over any flag of a source that goes by the same conditions
+  module _ (f g : Source → Bool) (rails : (i : ℕ) → isOutside rs i ≡ isOutside ts i → f (rail i) ≡ g (rail i))
+      (fans : (n : ℕ) → isSlow rs n ≡ isSlow ts n → f (fan n) ≡ g (fan n)) (one : f (sensor 1) ≡ g (sensor 1))
+      (two : f (sensor 2) ≡ g (sensor 2)) (three : f (sensor 3) ≡ g (sensor 3)) (no : f chassis ≡ g chassis) where
+    first-same : word (map f firstByte) ≡ word (map g firstByte)
+    unfolding ruleless
+    first-same =
+        simp (
+          rails 0 (outside-same 0 refl refl refl),
+          rails 1 (outside-same 1 refl refl refl),
+          rails 2 (outside-same 2 refl refl refl),
+          rails 3 (outside-same 3 refl refl refl),
+          one,
+          two,
+          fans 1 (slow-same 1 refl refl),
+          fans 2 (slow-same 2 refl refl),
+        )
+
+    second-same : word (map f secondByte) ≡ word (map g secondByte)
+    unfolding ruleless
+    second-same =
+        simp (
+          rails 4 (outside-same 4 refl refl refl),
+          rails 5 (outside-same 5 refl refl refl),
+          rails 6 (outside-same 6 refl refl refl),
+          fans 3 (slow-same 3 refl refl),
+          no,
+          three,
+        )
+
   real-1 : realTimeByte rs firstByte ≡ realTimeByte ts firstByte
-  unfolding ruleless
-  real-1 =
-      simp (
-        outside-same 0 refl refl refl,
-        outside-same 1 refl refl refl,
-        outside-same 2 refl refl refl,
-        outside-same 3 refl refl refl,
-        above-1,
-        above-n 2 (lit≤ tt) (lit≤ tt),
-        slow-same 1 refl refl,
-        slow-same 2 refl refl,
-      )
+  real-1 = first-same (condition rs) (condition ts) (λ i e. e) (λ n e. e) above-1 (above-n 2 (lit≤ tt) (lit≤ tt)) (above-n 3 (lit≤ tt) (lit≤ tt)) refl
 
   real-2 : realTimeByte rs secondByte ≡ realTimeByte ts secondByte
-  unfolding ruleless
-  real-2 =
-      simp (
-        outside-same 4 refl refl refl,
-        outside-same 5 refl refl refl,
-        outside-same 6 refl refl refl,
-        slow-same 3 refl refl,
-        above-n 3 (lit≤ tt) (lit≤ tt),
-      )
+  real-2 = second-same (condition rs) (condition ts) (λ i e. e) (λ n e. e) above-1 (above-n 2 (lit≤ tt) (lit≤ tt)) (above-n 3 (lit≤ tt) (lit≤ tt)) refl
 
-  pub latched-1 : (l : Latches) → latchedByte rs l firstByte ≡ latchedByte ts l firstByte
-  unfolding ruleless
-  latched-1 l =
-      simp (
-        outside-same 0 refl refl refl,
-        outside-same 1 refl refl refl,
-        outside-same 2 refl refl refl,
-        outside-same 3 refl refl refl,
-        latched-same l 1 above-1 below-1,
-        latched-same l 2 (above-n 2 (lit≤ tt) (lit≤ tt)) (below-n 2 (lit≤ tt) (lit≤ tt)),
-        slow-same 1 refl refl,
-        slow-same 2 refl refl,
-      )
+  module _ (l : Latches) where
+    one-latched : latchedBy rs l (sensor 1) ≡ latchedBy ts l (sensor 1)
+    one-latched = latched-same l 1 above-1 below-1
 
-  pub latched-2 : (l : Latches) → latchedByte rs l secondByte ≡ latchedByte ts l secondByte
-  unfolding ruleless
-  latched-2 l =
-      simp (
-        outside-same 4 refl refl refl,
-        outside-same 5 refl refl refl,
-        outside-same 6 refl refl refl,
-        slow-same 3 refl refl,
-        latched-same l 3 (above-n 3 (lit≤ tt) (lit≤ tt)) (below-n 3 (lit≤ tt) (lit≤ tt)),
-      )
+    remote-latched : (n : ℕ) → 2 ≤ n → n ≤ 3 → latchedBy rs l (sensor n) ≡ latchedBy ts l (sensor n)
+    remote-latched n h k = latched-same l n (above-n n h k) (below-n n h k)
+
+    pub latched-1 : latchedByte rs l firstByte ≡ latchedByte ts l firstByte
+    latched-1 =
+        first-same (latchedBy rs l) (latchedBy ts l) (λ i e. e) (λ n e. e) one-latched (remote-latched 2 (lit≤ tt) (lit≤ tt)) (remote-latched 3 (lit≤ tt) (lit≤ tt)) refl
+
+    pub latched-2 : latchedByte rs l secondByte ≡ latchedByte ts l secondByte
+    latched-2 =
+        second-same (latchedBy rs l) (latchedBy ts l) (λ i e. e) (λ n e. e) one-latched (remote-latched 2 (lit≤ tt) (lit≤ tt)) (remote-latched 3 (lit≤ tt) (lit≤ tt)) refl
 
   -- ---- the stores of status and real-time bits, where 41h and 42h are the same too
   pub status-stores : (l : Latches) → getD rs interruptStatus1 0 ≡ getD ts interruptStatus1 0 → getD rs interruptStatus2 0 ≡ getD ts interruptStatus2 0

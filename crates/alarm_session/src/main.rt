@@ -25,7 +25,7 @@ use text::put_bytes;
 use text::put_decimal;
 use text::put_small_hex;
 use w83782d::Monitor;
-use w83782d_record::samples::Sample;
+use w83782d_layout::samples::Sample;
 
 fn byte_at(m: Monitor, index: u8) -> u8 {
     let done = m.read(index);

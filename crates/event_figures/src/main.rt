@@ -2,10 +2,10 @@
 // printed, and what they decode to.
 use fan::Undivided;
 use libc::STDOUT_FILENO;
-use w83782d_record::event::Decoded;
-use w83782d_record::event::Event;
-use w83782d_record::event::Kind;
-use w83782d_record::samples::Sample;
+use w83782d_layout::samples::Sample;
+use w83782d_record::Decoded;
+use w83782d_record::Event;
+use w83782d_record::Kind;
 
 // A sample that no record can hold: it stands beside a write and is not looked at.
 fn unwritable() -> Sample {
@@ -53,7 +53,7 @@ fn print_kind(kind: Kind) {
 }
 
 fn print_decoded(bytes: &[u8]) {
-    let record = w83782d_record::event::decode(bytes);
+    let record = w83782d_record::decode(bytes);
     let decoded = record.decoded;
     match decoded {
         Decoded::Event(kind) => print_kind(kind),
@@ -75,7 +75,7 @@ fn main() {
         sample,
     };
     let mut bytes = [0xFFu8; 32];
-    let answer = w83782d_record::event::write_record(event, &mut bytes);
+    let answer = w83782d_record::write_record(event, &mut bytes);
     io::write_all(STDOUT_FILENO, b"answer");
     print_byte(answer);
     io::write_all(STDOUT_FILENO, b"\nrecord");

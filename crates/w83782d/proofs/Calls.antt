@@ -2,14 +2,14 @@
 -- Assumes nothing.
 use mathlib.Core.Path.{_≡_, refl, ap, _∙_}
 use lib.ListN.{length}
-use Rattle.w83782d_record.specs.declared.samples.Sample.{Sample}
-use Rattle.w83782d_record.specs.declared.event.Kind.{Kind}
-use Rattle.w83782d_record.specs.declared.event.Kind.the-variants as kind
+use Rattle.w83782d_layout.specs.declared.samples.Sample.{Sample}
+use Rattle.w83782d_record.specs.declared.Kind.{Kind}
+use Rattle.w83782d_record.specs.declared.Kind.the-variants as kind
 use Rattle.in_force.specs.Carried.{Carries}
 use Rattle.in_force.proofs.Carriers.{every-carrier}
 use Rattle.w83782d_bus.specs.Bus.{State, Written, written}
 use Rattle.w83782d_claims.specs.Alarm.{Call, write, read, sample, chassis, setPlan, answerTo, monitor}
-use Rattle.w83782d_replay.specs.Events.{callFor}
+use Rattle.w83782d_events.specs.Events.{callFor}
 use Rattle.w83782d_claims.proofs.alarm.Alarm.{fit, alarm-rings}
 use Rattle.w83782d.specs.declared.Monitor.{Monitor}
 use Rattle.w83782d.specs.Monitor.{stateOf, applyOf}

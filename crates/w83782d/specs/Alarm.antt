@@ -3,13 +3,13 @@
 use mathlib.Core.Path.{_≡_}
 use Prim.Native.Nat.{ℕ}
 use lib.ListN.{length}
-use Rattle.w83782d_record.specs.declared.event.Event.{Event}
+use Rattle.w83782d_record.specs.declared.Event.{Event}
 use Rattle.in_force.specs.Carried.{Carrier, RingsIn}
 use Rattle.w83782d_map.specs.Map.{cells}
 use Rattle.w83782d_bus.specs.Bus as Bus
 use Rattle.w83782d_bus.specs.Bus.{State, written}
 use Rattle.w83782d_claims.specs.Alarm.{Call, write, read, sample, chassis, setPlan, answerTo, monitor}
-use Rattle.w83782d_replay.specs.Events.{callFor}
+use Rattle.w83782d_events.specs.Events.{callFor}
 use Rattle.w83782d.specs.declared.Monitor.{Monitor}
 use Rattle.w83782d.specs.declared.Answered.{Answered}
 use Rattle.w83782d.specs.declared.Shown.{Shown}

@@ -1,7 +1,7 @@
 -- The monitor by value: the definitions of the crates below, on its registers and latches.
 use Prim.Native.Nat.{ℕ}
-use Rattle.w83782d_record.specs.declared.event.Event.{Event}
-use Rattle.w83782d_record.specs.declared.samples.Sample.{Sample}
+use Rattle.w83782d_record.specs.declared.Event.{Event}
+use Rattle.w83782d_layout.specs.declared.samples.Sample.{Sample}
 use Rattle.w83782d_sample.specs.Sample as Rule
 use Rattle.w83782d_replay.specs.Replay as Replay
 use Rattle.w83782d_plan.specs.Plan as Plan

@@ -11,13 +11,13 @@ use Rattle.in_force.specs.InForce.{none, plan, found, afterAll}
 use Rattle.in_force.specs.Chip as chip
 use Rattle.in_force.specs.Chip.{Kind, reset, writing, planning, sampling, other, Chip, Alarm, Whole, watched, Rings}
 use Rattle.fan.specs.Count.{perMinute}
-use Rattle.w83782d_record.specs.declared.samples.Sample.{Sample}
+use Rattle.w83782d_layout.specs.declared.samples.Sample.{Sample}
 use Rattle.w83782d_map.specs.Map.{cells, at}
 use Rattle.w83782d_map.specs.Cells.{fanCount, realTimeStatus1, realTimeStatus2}
 use Rattle.w83782d_registers.specs.Registers.{resetRegisters}
 use Rattle.w83782d_registers.specs.Effects.{openedLatches}
 use Rattle.w83782d_bus.specs.Bus.{State, state, Written, written, writeOf, readOf}
-use Rattle.w83782d_sample.specs.Stored as Stored
+use Rattle.w83782d_store.specs.Stored as Stored
 use Rattle.w83782d_sample.specs.Sample.{sampleOf}
 use Rattle.w83782d_claims.specs.SampleClaims.{fanBit}
 use Rattle.w83782d_plan.specs.Plan.{fans, fanOf, setPlanOf}

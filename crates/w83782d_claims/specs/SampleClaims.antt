@@ -16,7 +16,7 @@ use Rattle.sensor.specs.Sensor.{statusOf, outputOf}
 use Rattle.sensor.specs.declared.Status.{Status}
 use Rattle.sensor.specs.declared.Output.{Output}
 use Rattle.status.specs.Claims.{UnmaskedBit}
-use Rattle.w83782d_record.specs.declared.samples.Sample.{Sample}
+use Rattle.w83782d_layout.specs.declared.samples.Sample.{Sample}
 use Rattle.w83782d_map.specs.Map.{cells, bankAt, indexAt}
 use Rattle.w83782d_map.specs.Cells.{bankCell, beepControl1, beepControl2, busAddress, configuration, diodeSelection, fanCount, fanLimit, gpoControl, interruptStatus1, interruptStatus2, ovtProperty, pinControl, pwmClock, realTimeStatus1, realTimeStatus2, remoteAddress, sensor1Value, sensorConfiguration, smiMask1, smiMask2, vbatFanDivisor, voltage}
 use Rattle.w83782d_registers.specs.Registers.{reachOf}
@@ -24,7 +24,7 @@ use Rattle.w83782d_registers.specs.Effects.{remoteOf}
 use Rattle.w83782d_bus.specs.Bus.{State, Written, writeOf, readOf}
 use Rattle.w83782d_claims.specs.BusClaims.{Whole, cellIn, shownIn}
 use Rattle.w83782d_claims.specs.Sampled.{halvesAt, isHotter, isColder, isSlower, isBeside, holdsFor, flagAt}
-use Rattle.w83782d_sample.specs.Stored.{sampledCode, sampledHalves, storedCount, isStopped}
+use Rattle.w83782d_store.specs.Stored.{sampledCode, sampledHalves, storedCount, isStopped}
 use Rattle.w83782d_conditions.specs.Conditions.{statusMode, outputMode}
 use Rattle.w83782d_sample.specs.Sample.{Source, firstByte, secondByte, markOf, sampleOf}
 use Rattle.w83782d_sample.specs.Sample.Source.{rail, sensor, fan, chassis}

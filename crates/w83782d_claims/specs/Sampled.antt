@@ -12,9 +12,9 @@ use Rattle.bits.specs.Bits.{choose, flagOf}
 use Rattle.numbers.specs.TwosComplement.{half8, half9, signedOf}
 use Rattle.analog.specs.Temperature.{nineBits}
 use Rattle.limits.specs.Limits.{lowByte, sensorHysteresis, sensorOver}
-use Rattle.w83782d_record.specs.declared.samples.Sample.{Sample}
+use Rattle.w83782d_layout.specs.declared.samples.Sample.{Sample}
 use Rattle.w83782d_map.specs.Cells.{bankCell, fanLimit, highLimit, lowLimit, sensor1Hysteresis, sensor1Over}
-use Rattle.w83782d_sample.specs.Stored.{sampledCode, sampledHalves, storedCount}
+use Rattle.w83782d_store.specs.Stored.{sampledCode, sampledHalves, storedCount}
 use Rattle.w83782d_sample.specs.Sample.{Source}
 use Rattle.w83782d_sample.specs.Sample.Source.{rail, sensor, fan, chassis}
 

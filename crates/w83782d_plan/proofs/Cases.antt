@@ -14,7 +14,7 @@ use Rattle.fan.specs.declared.planner.Planned.{Planned}
 use Rattle.w83782d_registers.specs.declared.latches.Latches.{Latches}
 use Rattle.w83782d_map.specs.Map.{cells}
 use Rattle.w83782d_bus.specs.Bus.{state, written, sized}
-use Rattle.w83782d_sample.specs.Stored.{divisorPlaces}
+use Rattle.w83782d_store.specs.Stored.{divisorPlaces}
 use Rattle.w83782d_map.specs.Cells.{fanLimit}
 use Rattle.w83782d_plan.specs.Plan.{setPlanOf}
 

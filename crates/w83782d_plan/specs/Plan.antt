@@ -7,7 +7,7 @@ use Rattle.fan.specs.Plan.{planAnswer}
 use Rattle.fan.specs.Search.{planOf}
 use Rattle.w83782d_bus.specs.Bus.{State, state, Written, written}
 use Rattle.w83782d_map.specs.Cells.{fanLimit}
-use Rattle.w83782d_sample.specs.Stored.{divisorPlaces}
+use Rattle.w83782d_store.specs.Stored.{divisorPlaces}
 
 -- how many fans, and where the limit and the three divisor bits of each are
 abbrev pub fans : ℕ

@@ -10,7 +10,7 @@ use w83782d_bus::Outcome;
 use w83782d_map::CELLS;
 use w83782d_map::FAN_LIMITS;
 use w83782d_registers::latches::Latches;
-use w83782d_sample::store::divisor_field;
+use w83782d_store::divisor_field;
 
 // An alarm for a fan, 1 to 3, at a speed of 1 to 1,350,000 turns a minute. Refused as 7 or 6 it leaves registers and latches;
 // a slice that is not of 112 cells is refused as 8.

@@ -22,7 +22,7 @@ use Rattle.analog.specs.declared.voltages.Reading.the-variants as reading
 use Rattle.analog.specs.Readings.{readingAnswer, readingValue, answerFor}
 use Rattle.analog.proofs.voltages.Voltages.{answers-hold}
 use Rattle.w83782d_map.specs.Map.{fits}
-use Rattle.w83782d_sample.specs.Stored.{divisorOf}
+use Rattle.w83782d_store.specs.Stored.{divisorOf}
 use Rattle.w83782d_map.specs.Cells.{fanCount, voltage}
 use Rattle.w83782d_readings.specs.declared.Temperature.{Temperature}
 use Rattle.w83782d_readings.specs.declared.Temperature.the-variants as temperature

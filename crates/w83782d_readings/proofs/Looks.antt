@@ -22,7 +22,7 @@ use Rattle.analog.specs.Pwm.{pwmParts}
 use Rattle.analog.specs.declared.voltages.Reading.{Reading}
 use Rattle.analog.specs.declared.voltages.Reading.the-variants as reading
 use Rattle.w83782d_map.specs.Map.{cells}
-use Rattle.w83782d_sample.specs.Stored.{divisorPlaces}
+use Rattle.w83782d_store.specs.Stored.{divisorPlaces}
 use Rattle.w83782d_map.specs.Cells.{fanCount, voltage}
 use Rattle.w83782d_readings.specs.declared.Temperature.the-variants as temperature
 use Rattle.w83782d_readings.specs.declared.Duty.the-variants as duty

@@ -18,7 +18,7 @@ use Rattle.analog.specs.Pwm.{pwmParts}
 use Rattle.analog.specs.declared.voltages.Reading.{Reading}
 use Rattle.analog.specs.declared.voltages.Reading.the-variants as reading
 use Rattle.w83782d_map.specs.Map.{fits}
-use Rattle.w83782d_sample.specs.Stored.{divisorOf}
+use Rattle.w83782d_store.specs.Stored.{divisorOf}
 use Rattle.w83782d_map.specs.Cells.{bankCell, fanCount, pwmDuty1, pwmDuty2, pwmDuty3, pwmDuty4, sensor1Value, voltage}
 use Rattle.w83782d_readings.specs.declared.Temperature.{Temperature}
 use Rattle.w83782d_readings.specs.declared.Temperature.the-variants as temperature

@@ -24,7 +24,7 @@ use w83782d_map::SENSOR_1;
 use w83782d_map::SENSOR_2;
 use w83782d_map::SENSOR_3;
 use w83782d_map::VCOREA;
-use w83782d_sample::store::divisor_field;
+use w83782d_store::divisor_field;
 
 // What reading a temperature answers.
 pub enum Temperature {

@@ -1,4 +1,2 @@
 pub mod Logs
 pub mod Runs
-pub mod Events
-pub mod Latched

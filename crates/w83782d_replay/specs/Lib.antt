@@ -1,3 +1,1 @@
 pub mod Replay
-pub mod Events
-pub mod Latched

@@ -18,15 +18,15 @@ use Rattle.sensor.specs.declared.Status.{Status}
 use Rattle.sensor.specs.declared.Output.{Output}
 use Rattle.sensor.specs.declared.Remote.{Remote}
 use Rattle.status.specs.Status.{statusBits}
-use Rattle.w83782d_record.specs.declared.samples.Sample.{Sample}
+use Rattle.w83782d_layout.specs.declared.samples.Sample.{Sample}
 use Rattle.w83782d_registers.specs.declared.latches.Latches.{Latches}
 use Rattle.w83782d_registers.specs.Effects.{remoteOf}
 use Rattle.w83782d_map.specs.Map.{cells}
 use Rattle.w83782d_map.specs.Cells.{interruptStatus1, interruptStatus2, realTimeStatus1, realTimeStatus2}
 use Rattle.w83782d_bus.specs.Bus.{state, sized, outcomeIn}
-use Rattle.w83782d_sample.specs.Stored.{storedReadings, sampleAnswer}
-use Rattle.w83782d_sample.specs.StoredParts.{storedIn}
-use Rattle.w83782d_sample.proofs.store.Rules.{stored-in}
+use Rattle.w83782d_store.specs.Stored.{storedReadings, sampleAnswer}
+use Rattle.w83782d_store.specs.StoredParts.{storedIn}
+use Rattle.w83782d_store.proofs.Rules.{stored-in}
 use Rattle.w83782d_sample.specs.declared.Step.{Step}
 use Rattle.w83782d_sample.specs.declared.Evaluation.{Evaluation}
 use Rattle.w83782d_sample.specs.declared.Latching.{Latching}

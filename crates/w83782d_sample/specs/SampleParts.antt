@@ -8,7 +8,7 @@ use Rattle.sensor.specs.declared.Mode.{Mode}
 use Rattle.sensor.specs.declared.Remote.{Remote}
 use Rattle.status.specs.Status.{statusBits, noBits}
 use Rattle.status.specs.declared.StatusBits.{StatusBits}
-use Rattle.w83782d_record.specs.declared.samples.Sample.{Sample}
+use Rattle.w83782d_layout.specs.declared.samples.Sample.{Sample}
 use Rattle.w83782d_map.specs.Map.{fits}
 use Rattle.w83782d_registers.specs.declared.latches.Latches.{Latches}
 use Rattle.w83782d_bus.specs.declared.Outcome.{Outcome}

@@ -9,11 +9,6 @@ ghost use Rattle.w83782d_map.specs.Map.{cells};
 ghost use Rattle.w83782d_bus.specs.Bus.{state, sized, outcomeIn};
 ghost use Rattle.w83782d_sample.specs.Sample.{sampleOf};
 ghost use Rattle.w83782d_sample.specs.SampleParts.{remoteStep, Evaluates, SetsStatus, outcomeOf, refusedOf, latchedIn};
-
-pub mod store;
-
-use crate::store::answer_to;
-use crate::store::store;
 use answers::ACCEPTED;
 use answers::WRONG_LENGTH;
 use bits::pack;
@@ -25,13 +20,15 @@ use status::StatusBits;
 use w83782d_bus::Outcome;
 use w83782d_conditions::Comparison;
 use w83782d_conditions::compare;
+use w83782d_layout::samples::Sample;
 use w83782d_map::CELLS;
 use w83782d_map::INTERRUPT_STATUS_1;
 use w83782d_map::INTERRUPT_STATUS_2;
 use w83782d_map::REAL_TIME_STATUS_1;
 use w83782d_map::REAL_TIME_STATUS_2;
-use w83782d_record::samples::Sample;
 use w83782d_registers::latches::Latches;
+use w83782d_store::answer_to;
+use w83782d_store::store;
 
 // ---- Steps
 

@@ -9,10 +9,10 @@ use Rattle.bits.specs.Bits.{choose}
 use Rattle.numbers.specs.TwosComplement.{half9, holds}
 use Rattle.analog.specs.Temperature.{outside}
 use Rattle.analog.proofs.Halves.{held}
-use Rattle.w83782d_record.specs.declared.samples.Sample.{Sample}
+use Rattle.w83782d_layout.specs.declared.samples.Sample.{Sample}
 use Rattle.w83782d_registers.proofs.Cases.{both}
 use Rattle.w83782d_bus.specs.Bus.{State}
-use Rattle.w83782d_sample.specs.Stored.{sampledHalves, sampleAnswer}
+use Rattle.w83782d_store.specs.Stored.{sampledHalves, sampleAnswer}
 use Rattle.w83782d_sample.specs.Sample.{sampleOf}
 use Rattle.w83782d_claims.specs.SampleClaims.{isStandby, RefusedSample}
 use Rattle.w83782d_claims.proofs.sample.Stores.{sample-answer, refused-state}

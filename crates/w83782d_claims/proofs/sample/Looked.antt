@@ -17,13 +17,13 @@ use Rattle.fan.specs.declared.Divisor.{Divisor}
 use Rattle.limits.specs.Limits.{halfLevelAt}
 use Rattle.sensor.specs.declared.Status.{Status}
 use Rattle.status.proofs.AfterLaws.{all-on}
-use Rattle.w83782d_record.specs.declared.samples.Sample.{Sample}
+use Rattle.w83782d_layout.specs.declared.samples.Sample.{Sample}
 use Rattle.w83782d_registers.specs.declared.latches.Latches.{Latches}
 use Rattle.w83782d_map.specs.Map.{cells}
 use Rattle.w83782d_map.specs.Cells.{bankCell, configuration, fanCount, fanLimit, highLimit, interruptStatus1, interruptStatus2, lowLimit, ovtProperty, sensor1Hysteresis, sensor1Over, sensor1Value, voltage}
 use Rattle.w83782d_registers.specs.Registers.{isInterrupt}
 use Rattle.w83782d_registers.proofs.Cases.{both}
-use Rattle.w83782d_sample.specs.Stored.{none, divisorPlaces, divisorOf, storedCount, readings, storedReadings, sampleAnswer}
+use Rattle.w83782d_store.specs.Stored.{none, divisorPlaces, divisorOf, storedCount, readings, storedReadings, sampleAnswer}
 use Rattle.w83782d_conditions.specs.Conditions.{isOutside, isAbove, isBelow, isSlow, statusMode, outputMode}
 use Rattle.w83782d_conditions.proofs.Rules.{not-one}
 use Rattle.w83782d_sample.specs.Sample.{Source, condition, firstByte, secondByte, statusAt, outputAt, remoteAfter, realTimeByte, latchedBy, latchedByte, statusStores, steppedLatches}

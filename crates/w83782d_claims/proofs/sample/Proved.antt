@@ -2,7 +2,7 @@
 -- Assumes nothing.
 use mir.Val.{SFits}
 use mir.Syntax.{w8}
-use Rattle.w83782d_record.specs.declared.samples.Sample.{Sample}
+use Rattle.w83782d_layout.specs.declared.samples.Sample.{Sample}
 use Rattle.w83782d_bus.specs.Bus.{State}
 use Rattle.w83782d_claims.specs.BusClaims.{Whole}
 use Rattle.w83782d_claims.specs.SampleClaims.{SampleClaims}

@@ -12,11 +12,11 @@ use Rattle.bits.specs.Map.{among}
 use Rattle.bits.proofs.BitLaws.{choose-ind}
 use Rattle.bits.proofs.Every.{same-tests}
 use Rattle.bits.proofs.Stores.{lastOf, puts-at, puts-length, cellsOf, isOf, puts-other, fewer}
-use Rattle.w83782d_record.specs.declared.samples.Sample.{Sample}
+use Rattle.w83782d_layout.specs.declared.samples.Sample.{Sample}
 use Rattle.w83782d_registers.specs.declared.latches.Latches.{Latches}
 use Rattle.w83782d_map.specs.Map.{cells, bankAt, indexAt}
 use Rattle.w83782d_bus.specs.Bus.{State, Written}
-use Rattle.w83782d_sample.specs.Stored.{readings, storedReadings, sampleAnswer}
+use Rattle.w83782d_store.specs.Stored.{readings, storedReadings, sampleAnswer}
 use Rattle.w83782d_sample.specs.Sample.{statusStores, statusRegisters, steppedLatches, sampledState, sampleOf}
 use Rattle.w83782d_claims.specs.BusClaims.{cellIn}
 use Rattle.w83782d_claims.specs.SampleClaims.{after, touched, Frame}

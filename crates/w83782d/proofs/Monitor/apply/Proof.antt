@@ -4,8 +4,8 @@ use mir.Val.{Fits, SFits}
 use mir.Syntax.{w8}
 use lib.ListN.{getD}
 use Rattle.w83782d.specs.Monitor.{stateOf}
-use Rattle.w83782d_replay.proofs.Events.{event-calls}
-use Rattle.w83782d_replay.proofs.Latched.{status-claims}
+use Rattle.w83782d_events.proofs.Events.{event-calls}
+use Rattle.w83782d_events.proofs.Latched.{status-claims}
 use Rattle.w83782d.proofs.Wrappers.{shown-as}
 use Rattle.w83782d.proofs.Monitor.apply.Statement.{statement}
 use Rattle.w83782d.proofs.Monitor.apply.Tie as tie

@@ -1,10 +1,10 @@
--- The numbers of document 01's table, in its order: a name that is given another number fails here, in this crate.
+-- The numbers of document 01's table, in its order, and those that requests added: a name that is given another number fails here, in this crate.
 -- Assumes nothing.
 use mathlib.Core.Path.{_≡_, refl}
 use mathlib.Core.List.{[], _∷_}
-use Rattle.answers.specs.Answers.{absent, readOnly, badTemperature, stopped, badRecord, badSpeed, noChannel, wrongLength}
+use Rattle.answers.specs.Answers.{absent, readOnly, badTemperature, stopped, badRecord, badSpeed, noChannel, wrongLength, dayFull}
 
 table :
-    absent ∷ readOnly ∷ badTemperature ∷ stopped ∷ badRecord ∷ badSpeed ∷ noChannel ∷ wrongLength ∷ []
-    ≡ 1 ∷ 2 ∷ 3 ∷ 4 ∷ 5 ∷ 6 ∷ 7 ∷ 8 ∷ []
+    absent ∷ readOnly ∷ badTemperature ∷ stopped ∷ badRecord ∷ badSpeed ∷ noChannel ∷ wrongLength ∷ dayFull ∷ []
+    ≡ 1 ∷ 2 ∷ 3 ∷ 4 ∷ 5 ∷ 6 ∷ 7 ∷ 8 ∷ 12 ∷ []
 table = refl

@@ -1,3 +1,4 @@
 pub mod Numbers
 pub mod Signs
 pub mod Words
+pub mod Wide

@@ -8,12 +8,12 @@ use native.Mathlib.Nat.{add-zero, zero-add, div-div-eq-div-mul, pow-suc}
 use native.Mathlib.Numerals.{add-one}
 use native.Mathlib.Omega.{arith}
 use lib.ListN.{length, take, drop, getD, set, replicate, length-replicate, getD-replicate}
-use lib.ListN.{drop-of-length-le, take-append-drop}
+use lib.ListN.{drop-of-length-le, take-append-drop, length-append, replicate-append-replicate}
 use lib.Seq.{take-all, take-suc-set, drop-set-lt, drop-cons, append-snoc}
 use Rattle.bits.specs.Bits.{bit, isOn, choose}
 use Rattle.bits.proofs.BitLaws.{bit-lt, bit-on, bit-off, choose-ind}
 use Rattle.figures.specs.BitCounts.{bitCountAfter, bitCountsFrom, bitCountsAfter}
-use Rattle.figures.specs.BitCounts.{bitCountsOver, bytesWithBit, BitCounts}
+use Rattle.figures.specs.BitCounts.{bitCountsOver, bytesWithBit, bitsOf, BitCounts}
 
 -- ---- one counter: by the digit that is left of the byte
 next-rest : (byte j : ℕ) → byte / 2 ^ j / 2 ≡ byte / 2 ^ suc j
@@ -108,5 +108,50 @@ from-none n j bytes h k =
     let l : length none ≡ n = length-replicate n 0 in
     over-all bytes none j (omega arith) (omega arith) ∙ omega (arith, z)
 
+-- ---- by the bytes so far
+bytes-more : (bytes : List ℕ) (b j : ℕ) → bytesWithBit j (bytes ++ (b ∷ [])) ≡ bytesWithBit j bytes + bit b j
+unfolding bytesWithBit
+bytes-more [] b j = omega arith
+bytes-more (x ∷ bytes) b j = omega (arith, bytes-more bytes b j)
+
+at-most-all : (bytes : List ℕ) (j : ℕ) → bytesWithBit j bytes ≤ length bytes
+unfolding bytesWithBit
+at-most-all [] j = omega arith
+at-most-all (b ∷ bytes) j = omega (arith, at-most-all bytes j, bit-lt b j)
+
+bits-length : (n : ℕ) (bytes : List ℕ) → length (bitsOf n bytes) ≡ n
+unfolding bitsOf
+bits-length zero bytes = refl
+bits-length (suc n) bytes = simp length-append (omega (arith, bits-length n bytes))
+
+bits-none : (n : ℕ) → bitsOf n [] ≡ replicate n 0
+unfolding bitsOf bytesWithBit
+bits-none zero = refl
+bits-none (suc n) =
+    ap (λ (x : List ℕ). x ++ (0 ∷ [])) (bits-none n) ∙ replicate-append-replicate n 1 0 ∙ rw add-one refl
+
+from-snoc : (cs : List ℕ) (byte j c : ℕ)
+    → bitCountsFrom byte j (cs ++ (c ∷ [])) ≡ bitCountsFrom byte j cs ++ (bitCountAfter byte (j + length cs) c ∷ [])
+unfolding bitCountsFrom
+from-snoc [] byte j c = rw add-zero refl
+from-snoc (x ∷ cs) byte j c =
+    let e : suc j + length cs ≡ j + suc (length cs) = omega arith in
+    ap (λ (l : List ℕ). bitCountAfter byte j x ∷ l) (from-snoc cs byte (suc j) c ∙ rw e refl)
+
+bits-more : (n : ℕ) (bytes : List ℕ) (b : ℕ) → length bytes + 1 < 2 ^ 64
+    → bitCountsAfter (bitsOf n bytes) b ≡ bitsOf n (bytes ++ (b ∷ []))
+unfolding bitsOf bitCountsFrom
+bits-more zero bytes b h = refl
+bits-more (suc n) bytes b h =
+    let counts : List ℕ = bitsOf n bytes in
+    let c : ℕ = bytesWithBit n bytes in
+    let at : 0 + length counts ≡ n = omega (arith, bits-length n bytes) in
+    let next : bitCountAfter b n c ≡ bytesWithBit n (bytes ++ (b ∷ [])) =
+    plain b n c (omega (arith, at-most-all bytes n)) ∙ sym (bytes-more bytes b n) in
+    from-snoc counts b 0 c
+    ∙ ap (λ (j : ℕ). bitCountsFrom b 0 counts ++ (bitCountAfter b j c ∷ [])) at
+    ∙ ap (λ (x : ℕ). bitCountsFrom b 0 counts ++ (x ∷ [])) next
+    ∙ ap (λ (l : List ℕ). l ++ (bytesWithBit n (bytes ++ (b ∷ [])) ∷ [])) (bits-more n bytes b h)
+
 pub bit-counts : BitCounts
-bit-counts = record { each = each; exact = from-none }
+bit-counts = record { each = each; exact = from-none; begin = bits-none; more = bits-more }

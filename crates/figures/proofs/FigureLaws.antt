@@ -18,7 +18,7 @@ use mir.ValLaws.{toZ-ofZ}
 use Rattle.numbers.specs.TwosComplement.{holds}
 use Rattle.numbers.proofs.twos_complement.Turned.{read}
 use Rattle.figures.specs.Figure.{figure, lesser, greater, pickedFrom, picked, sumOf, half64, wrapped}
-use Rattle.figures.specs.Figure.{figureOf, figureAfter, Moderate, RunningFigures}
+use Rattle.figures.specs.Figure.{figureOf, figureAfter, Within, RunningFigures}
 use Rattle.figures.specs.declared.Figure.{Figure}
 use Rattle.figures.proofs.Order.{at-most-trans, lesser-left, lesser-right, lesser-one}
 use Rattle.figures.proofs.Order.{greater-left, greater-right, greater-one}
@@ -87,10 +87,10 @@ size-add (pos a) (negsuc b) = size-less a b (ltb a (suc b)) refl
 size-add (negsuc a) (pos b) = omega (arith, size-less b a (ltb b (suc a)) refl)
 size-add (negsuc a) (negsuc b) = omega arith
 
-size-sum : (zs : List ℤ) → Moderate zs → natAbs (sumOf zs) ≤ 2 ^ 32 * length zs
+size-sum : (b : ℕ) (zs : List ℤ) → Within b zs → natAbs (sumOf zs) ≤ b * length zs
 unfolding sumOf
-size-sum [] m = omega arith
-size-sum (z ∷ zs) m = omega (arith, size-add z (sumOf zs), size-sum zs (m .1), m .0)
+size-sum b [] m = omega arith
+size-sum b (z ∷ zs) m = omega (arith, size-add z (sumOf zs), size-sum b zs (m .1), m .0)
 
 small-holds : (z : ℤ) → natAbs z ≤ 2 ^ 62 → holds half64 z ≡ true
 small-holds (pos n) h = lt-ltb n half64 (omega arith)
@@ -113,7 +113,8 @@ running-figures =
       greatest =
           bounds greater (λ a b. b ≤ℤ a) ≤ℤ-refl (λ a b c h k. at-most-trans c b a k h) greater-left greater-right;
       greatest-is-one = is-one greater greater-one;
-      sum = λ zs m l. wrapped-same (sumOf zs) (small-holds (sumOf zs) (omega (arith, size-sum zs m)));
+      sum = λ zs m l. wrapped-same (sumOf zs) (small-holds (sumOf zs) (omega (arith, size-sum (2 ^ 32) zs m)));
+      size = size-sum;
     }
 
 -- ---- as the code makes it, which reads back what it is handed

@@ -1,7 +1,7 @@
 -- How many bytes had each bit.
 use mathlib.Core.Path.{_≡_}
-use mathlib.Core.List.{List, [], _∷_}
-use Prim.Native.Nat.{ℕ, suc, _+_, _%_, _^_, _<_}
+use mathlib.Core.List.{List, [], _∷_, _++_}
+use Prim.Native.Nat.{ℕ, zero, suc, _+_, _%_, _^_, _<_}
 use lib.ListN.{length, getD, replicate}
 use Rattle.bits.specs.Bits.{bit, isOn, choose}
 
@@ -27,6 +27,11 @@ unfoldable pub bytesWithBit : ℕ → List ℕ → ℕ
 bytesWithBit j [] = 0
 bytesWithBit j (b ∷ bs) = bit b j + bytesWithBit j bs
 
+-- the same of each of the bits 0 to n - 1
+unfoldable pub bitsOf : ℕ → List ℕ → List ℕ
+bitsOf zero bytes = []
+bitsOf (suc n) bytes = bitsOf n bytes ++ (bytesWithBit n bytes ∷ [])
+
 -- what is claimed of counters
 pub record BitCounts : Type 0 where
   -- a byte changes each counter by its own bit
@@ -35,3 +40,7 @@ pub record BitCounts : Type 0 where
   -- from 0 they are the number of bytes that had the bit
   pub exact : (n j : ℕ) (bytes : List ℕ) → j < n → length bytes < 2 ^ 64
       → getD (bitCountsOver (replicate n 0) bytes) j 0 ≡ bytesWithBit j bytes
+  -- of no byte they are 0, and a byte more makes them those of the longer list
+  pub begin : (n : ℕ) → bitsOf n [] ≡ replicate n 0
+  pub more : (n : ℕ) (bytes : List ℕ) (b : ℕ) → length bytes + 1 < 2 ^ 64
+      → bitCountsAfter (bitsOf n bytes) b ≡ bitsOf n (bytes ++ (b ∷ []))

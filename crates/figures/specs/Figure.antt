@@ -85,10 +85,10 @@ figureIn zs at samples z =
 
 -- ---- what figures mean
 
--- no value is beyond 2 ^ 32 on either side
-abbrev pub Moderate : List ℤ → Type 0
-Moderate [] = Unit {0}
-Moderate (z ∷ zs) = (natAbs z ≤ 2 ^ 32) × Moderate zs
+-- no value is beyond a bound on either side
+abbrev pub Within : ℕ → List ℤ → Type 0
+Within b [] = Unit {0}
+Within b (z ∷ zs) = (natAbs z ≤ b) × Within b zs
 
 -- what is claimed of figures
 pub record RunningFigures : Type 0 where
@@ -99,5 +99,7 @@ pub record RunningFigures : Type 0 where
   pub least-is-one : (zs : List ℤ) → zs ≢ [] → List·Memᴰ (leastOf zs) zs
   pub greatest : (zs : List ℤ) (z : ℤ) → List·Memᴰ z zs → z ≤ℤ greatestOf zs
   pub greatest-is-one : (zs : List ℤ) → zs ≢ [] → List·Memᴰ (greatestOf zs) zs
-  -- the sum is the sum, of up to 2 ^ 30 moderate values
-  pub sum : (zs : List ℤ) → Moderate zs → length zs ≤ 2 ^ 30 → figureOf zs .sum ≡ sumOf zs
+  -- the sum is the sum, of up to 2 ^ 30 values of at most 2 ^ 32 on either side
+  pub sum : (zs : List ℤ) → Within (2 ^ 32) zs → length zs ≤ 2 ^ 30 → figureOf zs .sum ≡ sumOf zs
+  -- and it is at most the bound of the values for each of them
+  pub size : (b : ℕ) (zs : List ℤ) → Within b zs → natAbs (sumOf zs) ≤ b * length zs

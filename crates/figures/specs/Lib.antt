@@ -1,2 +1,3 @@
 pub mod Figure
+pub mod Rows
 pub mod BitCounts

@@ -4,6 +4,7 @@ ghost use mathlib.Core.Path.{_≡_};
 ghost use lib.IntN.{_+ℤ_};
 ghost use Rattle.numbers.specs.TwosComplement.{signedOf, codeOf};
 ghost use Rattle.figures.specs.Figure.{half64, wrapped, lesser, greater, figureAfter, figureIn, RunningFigures};
+ghost use Rattle.figures.specs.Rows.{figuresAfter, RowFigures};
 ghost use Rattle.figures.specs.BitCounts.{bitCountsAfter, BitCounts};
 
 const HALF: u64 = 0x8000_0000_0000_0000;
@@ -104,6 +105,19 @@ pub fn figure_in(figures: &mut [i64], at: usize, samples: u64, value: i64)
     figures[at] = least;
     figures[at + 1] = greatest;
     figures[at + 2] = sum;
+}
+
+// One value more of each reading, where the figures of all follow one another in a slice. Where values or figures run
+// out, the rest stays.
+pub fn figures_in(figures: &mut [i64], samples: u64, values: &[i64])
+    ensures { λ r. ⌜ (now (figures .exit) ≡ figuresAfter samples (now (figures .entry)) (now (values .entry)))
+        × RowFigures ⌝ }
+{
+    let mut i = 0;
+    while i < values.len() {
+        figure_in(figures, 3 * i, samples, values[i]);
+        i += 1;
+    }
 }
 
 // One more in the counter of each bit that a byte has; the first counter is that of bit 0. It stops where no bit is

@@ -110,7 +110,8 @@ pub fn figure_in(figures: &mut [i64], at: usize, samples: u64, value: i64)
 // One value more of each reading, where the figures of all follow one another in a slice. Where values or figures run
 // out, the rest stays.
 pub fn figures_in(figures: &mut [i64], samples: u64, values: &[i64])
-    ensures { λ r. ⌜ (now (figures .exit) ≡ figuresAfter samples (now (figures .entry)) (now (values .entry))) × RowFigures ⌝ }
+    ensures { λ r. ⌜ (now (figures .exit) ≡ figuresAfter samples (now (figures .entry)) (now (values .entry)))
+        × RowFigures ⌝ }
 {
     let mut i = 0;
     while i < values.len() {

@@ -1,0 +1,44 @@
+use Rattle.report_text.proofs.Joined.{put-count-line}
+use borrow.Author.Needs.{needs}
+use Rattle.report_text.proofs.put_count.Statement.{statement}
+use Rattle.report_text.proofs.put_count.Tie as tie
+
+put-bytes-requires : tie.Need-put-bytes-requires
+put-bytes-requires c κs = search needs
+
+put-byte-requires : tie.Need-put-byte-requires
+put-byte-requires c κs = search needs
+
+put-decimal-requires : tie.Need-put-decimal-requires
+put-decimal-requires c κs = search needs
+
+put-number-requires : tie.Need-put-number-requires
+put-number-requires c κs = search needs
+
+put-byte-requires-2 : tie.Need-put-byte-requires-2
+put-byte-requires-2 c κs = search needs
+
+same-length : tie.Need-same-length
+same-length c = search needs
+
+returns : tie.Need-returns
+returns c =
+    let last = c .before .before in
+    let count = last .before .before .before .before in
+    let bit = count .before .before .before .before in
+    let point = bit .before .before .before .before in
+    let register = point .before .before .before .before in
+    put-count-line _ _ _ (register .put-bytes .ensures) (point .put-byte .ensures) (bit .put-decimal .ensures)
+    (count .put-number .ensures) (last .put-byte2 .ensures)
+
+pub put-count-spec : {M : Type 1} → statement M
+put-count-spec =
+    tie.close
+    (tie.spec
+    put-bytes-requires
+    put-byte-requires
+    put-decimal-requires
+    put-number-requires
+    put-byte-requires-2
+    same-length
+    returns)

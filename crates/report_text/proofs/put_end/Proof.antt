@@ -1,0 +1,43 @@
+use Rattle.report_text.proofs.Joined.{put-end-line}
+use borrow.Author.Needs.{needs}
+use Rattle.report_text.proofs.put_end.Statement.{statement}
+use Rattle.report_text.proofs.put_end.Tie as tie
+
+slice-aggregate-put-bytes : tie.Need-slice-aggregate-put-bytes
+slice-aggregate-put-bytes c = search needs
+
+put-bytes-requires : tie.Need-put-bytes-requires
+put-bytes-requires c κs = search needs
+
+put-number-requires : tie.Need-put-number-requires
+put-number-requires c κs = search needs
+
+put-number-requires-2 : tie.Need-put-number-requires-2
+put-number-requires-2 c κs = search needs
+
+put-byte-requires : tie.Need-put-byte-requires
+put-byte-requires c κs = search needs
+
+same-length : tie.Need-same-length
+same-length c = search needs
+
+returns : tie.Need-returns
+returns c =
+    let last = c .before .before in
+    let accepted = last .before .before .before .before in
+    let answer = accepted .before .before .before .before in
+    let word = answer .before .before .before .before in
+    put-end-line _ _ (word .put-bytes .ensures) (answer .put-number .ensures) (accepted .put-number2 .ensures)
+    (last .put-byte .ensures)
+
+pub put-end-spec : {M : Type 1} → statement M
+put-end-spec =
+    tie.close
+    (tie.spec
+    slice-aggregate-put-bytes
+    put-bytes-requires
+    put-number-requires
+    put-number-requires-2
+    put-byte-requires
+    same-length
+    returns)

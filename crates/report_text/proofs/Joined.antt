@@ -16,8 +16,8 @@ use mir.ValLaws.{toZ-ofZ}
 use Rattle.figures.specs.Figure.{figure, figureAt}
 use Rattle.text.proofs.Puts.{_then_, put-none}
 use Rattle.text.specs.Text.{ascii, lastPlace, Put}
-use Rattle.text.specs.Numbers.{decimal, signed}
-use Rattle.report_text.specs.Lines.{spaced, spacedSigned, extreme, readingLine}
+use Rattle.text.specs.Numbers.{spaced, decimal, signed}
+use Rattle.report_text.specs.Lines.{spacedSigned, extreme, readingLine}
 use Rattle.report_text.specs.Lines.{countLine, countLinesFrom, countLines, endLine}
 
 -- a number as the machine reads it back
@@ -25,10 +25,6 @@ abbrev pub back : ℤ → ℤ
 back z = toZ w64 (ofZ w64 z)
 
 module _ (o p q : List ℕ) (at l m : ℕ) where
-  pub put-spaced : (n : ℕ) → Put o at (32 ∷ []) p l → Put p l (decimal n) q m → Put o at (spaced n) q m
-  unfolding spaced
-  put-spaced n f g = f then g
-
   pub put-spaced-signed : (z : ℤ) → SFits w64 z → Put o at (32 ∷ []) p l → Put p l (signed (back z)) q m
       → Put o at (spacedSigned z) q m
   unfolding spacedSigned

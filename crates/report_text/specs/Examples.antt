@@ -4,8 +4,8 @@ use mathlib.Core.List.{[], _∷_, _++_}
 use lib.IntN.{pos, negsuc}
 use Rattle.figures.specs.Figure.{figure}
 use Rattle.text.specs.Text.{ascii}
-use Rattle.text.specs.Numbers.{spell, decimal, signed}
-use Rattle.report_text.specs.Lines.{spaced, spacedSigned, extreme, readingLine}
+use Rattle.text.specs.Numbers.{spaced, spell, decimal, signed}
+use Rattle.report_text.specs.Lines.{spacedSigned, extreme, readingLine}
 use Rattle.report_text.specs.Lines.{countLine, countLinesFrom, countLines, endLine}
 
 -- of three samples, the least of which is below 0

@@ -6,11 +6,7 @@ use lib.IntN.{ℤ}
 use Rattle.bits.specs.Bits.{choose}
 use Rattle.figures.specs.declared.Figure.{Figure}
 use Rattle.text.specs.Text.{ascii}
-use Rattle.text.specs.Numbers.{decimal, signed}
-
--- a number behind a space
-unfoldable pub spaced : ℕ → List ℕ
-spaced n = ascii " " ++ decimal n
+use Rattle.text.specs.Numbers.{decimal, spaced, signed}
 
 unfoldable pub spacedSigned : ℤ → List ℕ
 spacedSigned z = ascii " " ++ signed z

@@ -6,20 +6,13 @@ ghost use lib.IntN.{pos};
 ghost use lib.ListN.{getD};
 ghost use Rattle.figures.specs.Figure.{figure, figureAt};
 ghost use Rattle.text.specs.Text.{Put};
-ghost use Rattle.report_text.specs.Lines.{spaced, spacedSigned, extreme, readingLine};
+ghost use Rattle.report_text.specs.Lines.{spacedSigned, extreme, readingLine};
 ghost use Rattle.report_text.specs.Lines.{countLine, countLines, endLine};
 use text::put_byte;
 use text::put_bytes;
 use text::put_decimal;
 use text::put_signed;
-
-// A number behind a space.
-fn put_number(out: &mut [u8], at: usize, n: u64) -> usize
-    ensures { λ r. ⌜ Put (now (out .entry)) at (spaced n) (now (out .exit)) r ⌝ }
-{
-    let next = put_byte(out, at, b' ');
-    put_decimal(out, next, n)
-}
+use text::put_spaced;
 
 // A signed number behind a space.
 fn put_signed_number(out: &mut [u8], at: usize, z: i64) -> usize
@@ -53,7 +46,7 @@ fn put_figure(
         (readingLine (now (name .entry)) samples (figure least greatest sum)) (now (out .exit)) r ⌝ }
 {
     let a = put_bytes(out, at, name);
-    let b = put_number(out, a, samples);
+    let b = put_spaced(out, a, samples);
     let c = put_extreme(out, b, samples, least);
     let d = put_extreme(out, c, samples, greatest);
     let e = put_signed_number(out, d, sum);
@@ -100,7 +93,7 @@ fn put_count(out: &mut [u8], at: usize, register: &[u8], bit: u64, n: u64) -> us
     let a = put_bytes(out, at, register);
     let b = put_byte(out, a, b'.');
     let c = put_decimal(out, b, bit);
-    let d = put_number(out, c, n);
+    let d = put_spaced(out, c, n);
     put_byte(out, d, b'\n')
 }
 
@@ -123,7 +116,7 @@ pub fn put_end(out: &mut [u8], at: usize, answer: u8, accepted: u64) -> usize
     ensures { λ r. ⌜ Put (now (out .entry)) at (endLine answer accepted) (now (out .exit)) r ⌝ }
 {
     let a = put_bytes(out, at, b"end");
-    let b = put_number(out, a, answer as u64);
-    let c = put_number(out, b, accepted);
+    let b = put_spaced(out, a, answer as u64);
+    let c = put_spaced(out, b, accepted);
     put_byte(out, c, b'\n')
 }

@@ -10,7 +10,7 @@ use lib.Dec.{ltb}
 use Rattle.bits.specs.Bits.{choose}
 use Rattle.text.specs.Text.{Put}
 use Rattle.text.proofs.Puts.{_then_}
-use Rattle.text.specs.Numbers.{digit, spell, decimal, valueAfter, value, Digits, NoLeadingZero, Decimals}
+use Rattle.text.specs.Numbers.{digit, spell, decimal, spaced, valueAfter, value, Digits, NoLeadingZero, Decimals}
 
 choose-right : (b : Bool) (x y z : List ℕ) → (b ≡ false → y ≡ z) → choose b x y ≡ choose b x z
 choose-right true x y z f = refl
@@ -133,3 +133,8 @@ put-one o p at m n h f = rw (decimal-one n h) f
 pub put-ten : (o p q : List ℕ) (at l m n : ℕ) → 10 ≤ n → Put o at (decimal (n / 10)) p l → Put p l (digit n ∷ []) q m
     → Put o at (decimal n) q m
 put-ten o p q at l m n h f g = rw (decimal-more n h) (f then g)
+
+-- a number behind a space
+pub put-behind-space : (o p q : List ℕ) (at l m n : ℕ) → Put o at (32 ∷ []) p l → Put p l (decimal n) q m → Put o at (spaced n) q m
+unfolding spaced
+put-behind-space o p q at l m n f g = f then g

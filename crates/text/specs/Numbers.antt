@@ -40,6 +40,10 @@ spell (suc k) n = choose (ltb n 10) (digit n ∷ []) (spell k (n / 10) ++ (digit
 unfoldable pub decimal : ℕ → List ℕ
 decimal n = spell n n
 
+-- the same behind a space
+unfoldable pub spaced : ℕ → List ℕ
+spaced n = ascii " " ++ decimal n
+
 -- a first character, which is "0" only where it is the only one
 abbrev pub NoLeadingZero : List ℕ → Type 0
 NoLeadingZero [] = ⊥

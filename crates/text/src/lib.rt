@@ -5,7 +5,7 @@ ghost use mathlib.Core.Path.{_≡_};
 ghost use mathlib.Core.List.{[], _∷_};
 ghost use Prim.Native.Nat.{_<_};
 ghost use Rattle.text.specs.Text.{Put};
-ghost use Rattle.text.specs.Numbers.{digit, decimal, places, pointed, magnitudeOf, signed, signedPlaces};
+ghost use Rattle.text.specs.Numbers.{digit, decimal, spaced, places, pointed, magnitudeOf, signed, signedPlaces};
 ghost use Rattle.text.specs.Numbers.{hexDigit, hexWith, hex, smallHex};
 
 // One character.
@@ -51,6 +51,14 @@ pub fn put_decimal(out: &mut [u8], at: usize, n: u64) -> usize
     }
     let next = put_decimal(out, at, n / 10);
     put_digit(out, next, n)
+}
+
+// The same behind a space.
+pub fn put_spaced(out: &mut [u8], at: usize, n: u64) -> usize
+    ensures { λ r. ⌜ Put (now (out .entry)) at (spaced n) (now (out .exit)) r ⌝ }
+{
+    let next = put_byte(out, at, b' ');
+    put_decimal(out, next, n)
 }
 
 // A number and a point, with so many digits of it behind the point.

@@ -12,8 +12,8 @@ put-byte-requires c κs = search needs
 put-decimal-requires : tie.Need-put-decimal-requires
 put-decimal-requires c κs = search needs
 
-put-number-requires : tie.Need-put-number-requires
-put-number-requires c κs = search needs
+put-spaced-requires : tie.Need-put-spaced-requires
+put-spaced-requires c κs = search needs
 
 put-byte-requires-2 : tie.Need-put-byte-requires-2
 put-byte-requires-2 c κs = search needs
@@ -29,7 +29,7 @@ returns c =
     let point = bit .before .before .before .before in
     let register = point .before .before .before .before in
     put-count-line _ _ _ (register .put-bytes .ensures) (point .put-byte .ensures) (bit .put-decimal .ensures)
-    (count .put-number .ensures) (last .put-byte2 .ensures)
+    (count .put-spaced .ensures) (last .put-byte2 .ensures)
 
 pub put-count-spec : {M : Type 1} → statement M
 put-count-spec =
@@ -38,7 +38,7 @@ put-count-spec =
     put-bytes-requires
     put-byte-requires
     put-decimal-requires
-    put-number-requires
+    put-spaced-requires
     put-byte-requires-2
     same-length
     returns)

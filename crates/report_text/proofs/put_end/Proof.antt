@@ -9,11 +9,11 @@ slice-aggregate-put-bytes c = search needs
 put-bytes-requires : tie.Need-put-bytes-requires
 put-bytes-requires c κs = search needs
 
-put-number-requires : tie.Need-put-number-requires
-put-number-requires c κs = search needs
+put-spaced-requires : tie.Need-put-spaced-requires
+put-spaced-requires c κs = search needs
 
-put-number-requires-2 : tie.Need-put-number-requires-2
-put-number-requires-2 c κs = search needs
+put-spaced-requires-2 : tie.Need-put-spaced-requires-2
+put-spaced-requires-2 c κs = search needs
 
 put-byte-requires : tie.Need-put-byte-requires
 put-byte-requires c κs = search needs
@@ -27,7 +27,7 @@ returns c =
     let accepted = last .before .before .before .before in
     let answer = accepted .before .before .before .before in
     let word = answer .before .before .before .before in
-    put-end-line _ _ (word .put-bytes .ensures) (answer .put-number .ensures) (accepted .put-number2 .ensures)
+    put-end-line _ _ (word .put-bytes .ensures) (answer .put-spaced .ensures) (accepted .put-spaced2 .ensures)
     (last .put-byte .ensures)
 
 pub put-end-spec : {M : Type 1} → statement M
@@ -36,8 +36,8 @@ put-end-spec =
     (tie.spec
     slice-aggregate-put-bytes
     put-bytes-requires
-    put-number-requires
-    put-number-requires-2
+    put-spaced-requires
+    put-spaced-requires-2
     put-byte-requires
     same-length
     returns)

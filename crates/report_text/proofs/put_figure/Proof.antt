@@ -8,8 +8,8 @@ use Rattle.report_text.proofs.put_figure.Tie as tie
 put-bytes-requires : tie.Need-put-bytes-requires
 put-bytes-requires c κs = search needs
 
-put-number-requires : tie.Need-put-number-requires
-put-number-requires c κs = search needs
+put-spaced-requires : tie.Need-put-spaced-requires
+put-spaced-requires c κs = search needs
 
 put-extreme-requires : tie.Need-put-extreme-requires
 put-extreme-requires c κs = search needs
@@ -36,7 +36,7 @@ returns c =
     let name = samples .before .before .before .before in
     let start = name .before .before .before .before in
     put-reading-line _ (start .fits .least) (start .fits .greatest) (start .fits .sum) (name .put-bytes .ensures)
-    (samples .put-number .ensures) (least .put-extreme .ensures) (greatest .put-extreme2 .ensures)
+    (samples .put-spaced .ensures) (least .put-extreme .ensures) (greatest .put-extreme2 .ensures)
     (sum .put-signed-number .ensures) (last .put-byte .ensures)
 
 pub put-figure-spec : {M : Type 1} → statement M
@@ -44,7 +44,7 @@ put-figure-spec =
     tie.close
     (tie.spec
     put-bytes-requires
-    put-number-requires
+    put-spaced-requires
     put-extreme-requires
     put-extreme-requires-2
     put-signed-number-requires

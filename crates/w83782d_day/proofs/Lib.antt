@@ -1,5 +1,5 @@
-pub mod Rows
-pub mod Bounds
-pub mod Days
-pub mod Reported
 pub mod Examples
+pub mod Rows
+pub mod Days
+pub mod Sizes
+pub mod Reported

@@ -10,7 +10,7 @@ use native.Mathlib.Omega.{arith}
 use mir.Val.{SFits}
 use mir.Syntax.{w8}
 use borrow.Author.Tests.{eqb-true, eq-eqb, ne-eqb}
-use lib.Dec.{eqb, eqb→eq, ltb, lit<}
+use lib.Dec.{eqb, ltb, lit<}
 use lib.ListN.{getD, length}
 use Rattle.bits.specs.Bits.{bit, isOn, choose, flagOf}
 use Rattle.bits.proofs.BitLaws.{bit-lt, bit-none, bit-on}

@@ -218,3 +218,38 @@ fn the_bad_record_that_is_the_days_last_has_its_own_number() {
     day.feed(&record(write(0x41, 0)));
     assert_eq!(line(&text(&day), "end"), "2 99999");
 }
+
+/// Bytes of a record that has begun may still become one.
+#[test]
+fn it_is_over_at_a_refused_record_and_not_before() {
+    for (refused, answer) in [(write(0x41, 0), 2), (write(0x00, 0), 1)] {
+        let mut fed = Report::new();
+        assert!(!fed.is_over());
+        fed.feed(&record(START));
+        assert!(!fed.is_over());
+        let refused = record(refused);
+        let (begun, last) = refused.split_at(RECORD_LENGTH - 1);
+        fed.feed(begun);
+        assert!(!fed.is_over());
+        fed.feed(last);
+        assert!(fed.is_over());
+        let ended = text(&fed);
+        assert_eq!(line(&ended, "end"), format!("{answer} 1"));
+        fed.feed(&log(&[START, Event::Chassis]));
+        fed.feed(&[1]);
+        assert!(fed.is_over());
+        assert_eq!(text(&fed), ended);
+    }
+}
+
+/// The day's last record doesn't end it: a piece after it would be 5.
+#[test]
+fn it_is_over_at_the_record_after_the_days_last() {
+    let mut day = Report::new();
+    day.feed(&log(&[START]).repeat(DAY as usize));
+    assert!(!day.is_over());
+    day.feed(&[9; RECORD_LENGTH - 1]);
+    assert!(!day.is_over());
+    day.feed(&[9]);
+    assert!(day.is_over());
+}

@@ -1,39 +1,92 @@
--- A figure kept in a slice: its three numbers, read back and stored one after another.
+-- A figure kept in a slice: a number that is stored or stays, the least and the greatest, and all three.
 -- Assumes nothing.
-use mathlib.Core.Path.{_≡_, refl}
+use mathlib.Core.Path.{_≡_, refl, sym, ap, _∙_}
+use mathlib.Core.Bool.{Bool, true, false}
 use mathlib.Core.List.{List}
-use Prim.Native.Nat.{ℕ, _+_, _-_, _<_, _≤_}
+use Prim.Native.Nat.{ℕ, _+_, _<_, _≤_}
 use native.Mathlib.Numerals.{add-one, add-two}
 use native.Mathlib.Omega.{arith}
-use borrow.Author.Tests.{le-leb, lt-leb}
-use lib.IntN.{ℤ, pos}
+use borrow.Author.Tests.{eq-eqb, ne-eqb, le-leb, lt-leb}
+use lib.Dec.{eqb}
+use lib.IntN.{ℤ, pos, _+ℤ_}
 use lib.ListN.{length, getD, set}
+use lib.Seq.{set-getD, getD-set-other}
+use lib.Signed.{ltZ}
 use mir.Syntax.{w64}
 use mir.Val.{SFits}
 use mir.ValLaws.{toZ-ofZ}
 use Rattle.numbers.proofs.twos_complement.Turned.{read}
-use Rattle.figures.specs.Figure.{figure, figureAfter, figureAt, figureIn}
+use Rattle.figures.specs.Figure.{lesser, greater, wrapped, figureAfter, figureAt}
+use Rattle.figures.specs.Figure.{pickedIn, boundsIn, figureIn}
 use Rattle.figures.specs.declared.Figure.{Figure}
+use Rattle.figures.proofs.Order.{lesser-is, greater-is}
 
--- a figure as the machine reads it back
-abbrev readFigure : Figure → Figure
-readFigure f = figure (read w64 (f .least)) (read w64 (f .greatest)) (read w64 (f .sum))
+-- ---- one number
+module _ (zs : List ℤ) (at : ℕ) (z : ℤ) (fa : SFits w64 (getD zs at (pos 0))) (fz : SFits w64 z) where
+  -- the one that is there is picked
+  same : (pick : ℤ → ℤ → ℤ) → read w64 (getD zs at (pos 0)) ≡ pick (getD zs at (pos 0)) z → zs ≡ pickedIn pick zs at z
+  same pick e = sym (set-getD zs at (pos 0)) ∙ ap (set zs at) (sym (toZ-ofZ w64 _ fa) ∙ e)
+
+  pub lesser-stored : ltZ (read w64 z) (read w64 (getD zs at (pos 0))) ≡ true
+      → set zs at (read w64 z) ≡ pickedIn lesser zs at z
+  lesser-stored t = ap (set zs at) (lesser-is (getD zs at (pos 0)) z fa fz true t)
+
+  pub lesser-stays : ltZ (read w64 z) (read w64 (getD zs at (pos 0))) ≡ false → zs ≡ pickedIn lesser zs at z
+  lesser-stays t = same lesser (lesser-is (getD zs at (pos 0)) z fa fz false t)
+
+  pub greater-stored : ltZ (read w64 (getD zs at (pos 0))) (read w64 z) ≡ true
+      → set zs at (read w64 z) ≡ pickedIn greater zs at z
+  greater-stored t = ap (set zs at) (greater-is (getD zs at (pos 0)) z fa fz true t)
+
+  pub greater-stays : ltZ (read w64 (getD zs at (pos 0))) (read w64 z) ≡ false → zs ≡ pickedIn greater zs at z
+  greater-stays t = same greater (greater-is (getD zs at (pos 0)) z fa fz false t)
+
+-- ---- all three
+sum-after : (samples : ℕ) (f : Figure) (z : ℤ) → figureAfter samples f z .sum ≡ wrapped (f .sum +ℤ z)
+unfolding figureAfter
+sum-after samples f z = go (eqb samples 0) refl
+  where
+    go : (t : Bool) → eqb samples 0 ≡ t → figureAfter samples f z .sum ≡ wrapped (f .sum +ℤ z)
+    go true t = rw t refl
+    go false t = rw t refl
 
 module _ (zs : List ℤ) (at samples : ℕ) (z : ℤ) where
   pub kept-none : length zs < at + 3 → zs ≡ figureIn zs at samples z
   unfolding figureIn
   kept-none h = simp (lt-leb (at + 3) (length zs) h)
 
-  pub kept-figure : (f : Figure) → 3 ≤ length zs → at ≤ length zs - 3 → SFits w64 (getD zs at (pos 0))
-      → SFits w64 (getD zs (at + 1) (pos 0)) → SFits w64 (getD zs (at + 2) (pos 0)) → SFits w64 z → SFits w64 (f .least)
-      → SFits w64 (f .greatest) → SFits w64 (f .sum)
-      → f ≡ figureAfter samples (readFigure (figureAt zs at)) (read w64 z)
-      → set (set (set zs at (read w64 (f .least))) (at + 1) (read w64 (f .greatest))) (at + 2) (read w64 (f .sum))
-      ≡ figureIn zs at samples z
-  unfolding figureIn
-  kept-figure f h k a b c d fl fg fs e =
-      let g : f ≡ figureAfter samples (figureAt zs at) z =
-      rw (toZ-ofZ w64 _ a, toZ-ofZ w64 _ b, toZ-ofZ w64 _ c, toZ-ofZ w64 z d) at e in
-      let l : at + 3 ≤ length zs = omega arith in
-      rw (le-leb (at + 3) (length zs) l)
-      (rw (toZ-ofZ w64 _ fl, toZ-ofZ w64 _ fg, toZ-ofZ w64 _ fs, ← g, add-one, add-two) refl)
+  module _ (fz : SFits w64 z) where
+    pub bounds-first : samples ≤ 0 → set (set zs at (read w64 z)) (at + 1) (read w64 z) ≡ boundsIn zs at samples z
+    unfolding boundsIn figureAfter
+    bounds-first h =
+        let e : samples ≡ 0 = omega arith in
+        rw (eq-eqb samples 0 e, toZ-ofZ w64 z fz) refl
+
+    pub bounds-more : (gs hs : List ℤ) → 0 < samples → gs ≡ pickedIn lesser zs at (read w64 z)
+        → hs ≡ pickedIn greater gs (at + 1) (read w64 z) → hs ≡ boundsIn zs at samples z
+    unfolding boundsIn figureAfter
+    bounds-more gs hs h eg eh =
+        let n : samples ≡ 0 → ⊥ = λ e. omega arith in
+        let other : at + 1 ≡ at → ⊥ = λ e. omega arith in
+        eh ∙ rw (eg, toZ-ofZ w64 z fz, getD-set-other zs at (at + 1) _ (pos 0) other, ne-eqb samples 0 n) refl
+
+    pub kept-read : (gs : List ℤ) → gs ≡ figureIn zs at samples (read w64 z) → gs ≡ figureIn zs at samples z
+    kept-read gs e = rw (toZ-ofZ w64 z fz) at e
+
+    pub kept-figure : (gs : List ℤ) (s : ℤ) → at + 3 ≤ length zs → SFits w64 (getD gs (at + 2) (pos 0)) → SFits w64 s
+        → gs ≡ boundsIn zs at samples (read w64 z)
+        → s ≡ wrapped (read w64 (getD gs (at + 2) (pos 0)) +ℤ read w64 z)
+        → set gs (at + 2) (read w64 s) ≡ figureIn zs at samples z
+    unfolding figureIn boundsIn
+    kept-figure gs s h fg fs eg es =
+        let f : Figure = figureAfter samples (figureAt zs at) z in
+        let is : gs ≡ set (set zs at (f .least)) (at + 1) (f .greatest) = rw (toZ-ofZ w64 z fz) at eg in
+        let a : at + 2 ≡ at → ⊥ = λ e. omega arith in
+        let b : at + 2 ≡ at + 1 → ⊥ = λ e. omega arith in
+        let third : getD gs (at + 2) (pos 0) ≡ getD zs (at + 2) (pos 0) =
+        rw is
+        (getD-set-other (set zs at (f .least)) (at + 1) (at + 2) (f .greatest) (pos 0) b
+        ∙ getD-set-other zs at (at + 2) (f .least) (pos 0) a) in
+        let sum : s ≡ f .sum =
+        es ∙ rw (toZ-ofZ w64 z fz, toZ-ofZ w64 _ fg, third) (sym (sum-after samples (figureAt zs at) z)) in
+        rw (le-leb (at + 3) (length zs) h, toZ-ofZ w64 s fs) (rw (is, sum, add-one, add-two) refl)

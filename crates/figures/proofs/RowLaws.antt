@@ -192,6 +192,12 @@ module _ (fs : List ℤ) (at n : ℕ) (z : ℤ) (zs : List ℤ) where
       go true t = rw t (with-figure _ (leb-true (at + 3) (length fs) t) refl)
       go false t = rw t (without (leb-false (at + 3) (length fs) t))
 
+-- what holds before value i of a row
+abbrev pub AtValue : List ℤ → ℕ → List ℤ → List ℤ → ℕ → Type 0
+AtValue fs₀ samples zs fs i =
+    (i ≤ length zs) × (length fs ≡ length fs₀)
+    × (figuresAfter samples fs₀ zs ≡ take (3 * i) fs ++ figuresAfter samples (drop (3 * i) fs) (drop i zs))
+
 module _ (fs₀ fs zs : List ℤ) (samples i : ℕ)
     (e : figuresAfter samples fs₀ zs ≡ take (3 * i) fs ++ figuresAfter samples (drop (3 * i) fs) (drop i zs)) where
   pub figures-next : (at : ℕ) (gs : List ℤ) → i < length zs → SFits w64 (getD zs i (pos 0))

@@ -5,7 +5,7 @@ use mathlib.Core.List.{List, [], _∷_, _++_, List·Memᴰ}
 use Prim.Native.Nat.{ℕ, _+_, _-_, _*_, _%_, _^_, _≤_}
 use lib.Dec.{eqb, leb}
 use lib.IntN.{ℤ, pos, negsuc, natAbs, _+ℤ_}
-use lib.ListN.{length, getD}
+use lib.ListN.{length, getD, set}
 use lib.Seq.{sets}
 use lib.Signed.{ltZ, _≤ℤ_}
 use Rattle.bits.specs.Bits.{choose}
@@ -77,6 +77,14 @@ figureAt zs at = figure (getD zs at (pos 0)) (getD zs (at + 1) (pos 0)) (getD zs
 
 abbrev pub figureNumbers : Figure → List ℤ
 figureNumbers f = f .least ∷ f .greatest ∷ f .sum ∷ []
+
+-- on the way there: one number after one value more, and the least and the greatest
+abbrev pub pickedIn : (ℤ → ℤ → ℤ) → List ℤ → ℕ → ℤ → List ℤ
+pickedIn pick zs at z = set zs at (pick (getD zs at (pos 0)) z)
+
+unfoldable pub boundsIn : List ℤ → ℕ → ℕ → ℤ → List ℤ
+boundsIn zs at samples z =
+    let f : Figure = figureAfter samples (figureAt zs at) z in set (set zs at (f .least)) (at + 1) (f .greatest)
 
 -- one value more where it is kept; a slice that has not so many numbers stays
 unfoldable pub figureIn : List ℤ → ℕ → ℕ → ℤ → List ℤ

@@ -1,9 +1,12 @@
 // Running figures of what comes one by one: the least, the greatest and the sum of values, and how many bytes had each
 // bit. Nothing here is of one chip.
 ghost use mathlib.Core.Path.{_≡_};
+ghost use Prim.Native.Nat.{_+_, _*_, _<_, _≤_};
 ghost use lib.IntN.{_+ℤ_};
+ghost use lib.ListN.{length};
 ghost use Rattle.numbers.specs.TwosComplement.{signedOf, codeOf};
-ghost use Rattle.figures.specs.Figure.{half64, wrapped, lesser, greater, figureAfter, figureIn, RunningFigures};
+ghost use Rattle.figures.specs.Figure.{half64, wrapped, lesser, greater, figureAfter, RunningFigures};
+ghost use Rattle.figures.specs.Figure.{pickedIn, boundsIn, figureIn};
 ghost use Rattle.figures.specs.Rows.{figuresAfter, RowFigures};
 ghost use Rattle.figures.specs.BitCounts.{bitCountsAfter, BitCounts};
 
@@ -82,6 +85,49 @@ pub fn figure_after(samples: u64, figure: Figure, value: i64) -> Figure
     }
 }
 
+// The lesser, or the greater, of the number at a place and a value, in its place. Most values change neither, and then
+// nothing is stored.
+fn lesser_in(figures: &mut [i64], at: usize, value: i64)
+    requires { ⌜ at < length (now figures) ⌝ }
+    ensures { λ r. ⌜ now (figures .exit) ≡ pickedIn lesser (now (figures .entry)) at value ⌝ }
+{
+    if value < figures[at] {
+        figures[at] = value;
+    }
+}
+
+fn greater_in(figures: &mut [i64], at: usize, value: i64)
+    requires { ⌜ at < length (now figures) ⌝ }
+    ensures { λ r. ⌜ now (figures .exit) ≡ pickedIn greater (now (figures .entry)) at value ⌝ }
+{
+    if figures[at] < value {
+        figures[at] = value;
+    }
+}
+
+// The least and the greatest of a figure that is kept from a place on.
+fn bounds_in(figures: &mut [i64], at: usize, samples: u64, value: i64)
+    requires { ⌜ at + 3 ≤ length (now figures) ⌝ }
+    ensures { λ r. ⌜ now (figures .exit) ≡ boundsIn (now (figures .entry)) at samples value ⌝ }
+{
+    if samples > 0 {
+        lesser_in(figures, at, value);
+        greater_in(figures, at + 1, value);
+        return;
+    }
+    figures[at] = value;
+    figures[at + 1] = value;
+}
+
+// All three numbers. Where it is called for a row, the compiler tests the samples once before the loop.
+fn value_in(figures: &mut [i64], at: usize, samples: u64, value: i64)
+    requires { ⌜ at + 3 ≤ length (now figures) ⌝ }
+    ensures { λ r. ⌜ now (figures .exit) ≡ figureIn (now (figures .entry)) at samples value ⌝ }
+{
+    bounds_in(figures, at, samples, value);
+    figures[at + 2] = wrapping_add(figures[at + 2], value);
+}
+
 // The same in place, where the three numbers of a figure are kept in a slice from a place on: least, greatest, sum. A
 // slice that has not so many stays.
 pub fn figure_in(figures: &mut [i64], at: usize, samples: u64, value: i64)
@@ -93,18 +139,29 @@ pub fn figure_in(figures: &mut [i64], at: usize, samples: u64, value: i64)
     if at > figures.len() - 3 {
         return;
     }
-    let before = Figure {
-        least: figures[at],
-        greatest: figures[at + 1],
-        sum: figures[at + 2],
-    };
-    let after = figure_after(samples, before, value);
-    let least = after.least;
-    let greatest = after.greatest;
-    let sum = after.sum;
-    figures[at] = least;
-    figures[at + 1] = greatest;
-    figures[at + 2] = sum;
+    value_in(figures, at, samples, value);
+}
+
+// A row with a figure for each value: no place is tested. And a row with fewer figures.
+fn whole_row_in(figures: &mut [i64], samples: u64, values: &[i64])
+    requires { ⌜ 3 * length (now values) ≤ length (now figures) ⌝ }
+    ensures { λ r. ⌜ now (figures .exit) ≡ figuresAfter samples (now (figures .entry)) (now (values .entry)) ⌝ }
+{
+    let mut i = 0;
+    while i < values.len() {
+        value_in(figures, 3 * i, samples, values[i]);
+        i += 1;
+    }
+}
+
+fn part_row_in(figures: &mut [i64], samples: u64, values: &[i64])
+    ensures { λ r. ⌜ now (figures .exit) ≡ figuresAfter samples (now (figures .entry)) (now (values .entry)) ⌝ }
+{
+    let mut i = 0;
+    while i < values.len() {
+        figure_in(figures, 3 * i, samples, values[i]);
+        i += 1;
+    }
 }
 
 // One value more of each reading, where the figures of all follow one another in a slice. Where values or figures run
@@ -113,11 +170,11 @@ pub fn figures_in(figures: &mut [i64], samples: u64, values: &[i64])
     ensures { λ r. ⌜ (now (figures .exit) ≡ figuresAfter samples (now (figures .entry)) (now (values .entry)))
         × RowFigures ⌝ }
 {
-    let mut i = 0;
-    while i < values.len() {
-        figure_in(figures, 3 * i, samples, values[i]);
-        i += 1;
+    if figures.len() < 3 * values.len() {
+        part_row_in(figures, samples, values);
+        return;
     }
+    whole_row_in(figures, samples, values);
 }
 
 // One more in the counter of each bit that a byte has; the first counter is that of bit 0. It stops where no bit is

@@ -1,74 +1,37 @@
--- The invariant: the figures of the readings before i are done, those from i on are still to come.
--- Assumes nothing.
-use mathlib.Core.Path.{_≡_, refl}
-use mathlib.Core.List.{_++_}
-use Prim.Native.Nat.{_-_, _*_, _≤_}
-use native.Mathlib.Omega.{arith}
-use lib.ListN.{length, take, drop}
-use Rattle.figures.specs.Rows.{figuresAfter}
-use Rattle.figures.proofs.RowLaws.{figures-next, figures-done, row-figures}
+use Rattle.figures.proofs.RowLaws.{row-figures}
 use borrow.Author.Needs.{needs}
 use Rattle.figures.proofs.figures_in.Statement.{statement}
 use Rattle.figures.proofs.figures_in.Tie as tie
 
-abbrev Inv-loop : tie.InvT-loop
-Inv-loop figures₀ samples values i₀ figures i =
-    (i ≤ length values) × (length figures ≡ length figures₀)
-    × (figuresAfter samples figures₀ values
-    ≡ take (3 * i) figures ++ figuresAfter samples (drop (3 * i) figures) (drop i values))
+mul-if1 : tie.Need-mul-if1
+mul-if1 c = search needs
 
-abbrev μ-loop : tie.MeasureT-loop
-μ-loop figures₀ samples values i₀ figures i = length values - i
+part-row-in-requires : tie.Need-part-row-in-requires
+part-row-in-requires c κs = search needs
 
-loop-holds : tie.Need-loop-holds Inv-loop μ-loop
-loop-holds c = (search needs, refl, refl)
-
-mul-figure-in : tie.Need-mul-figure-in Inv-loop μ-loop
-mul-figure-in c = search needs
-
-mul-figure-in-2 : tie.Need-mul-figure-in-2 Inv-loop μ-loop
-mul-figure-in-2 c = search needs
-
-shared-slice-copy-out-figure-in : tie.Need-shared-slice-copy-out-figure-in Inv-loop μ-loop
-shared-slice-copy-out-figure-in c = search needs
-
-figure-in-requires : tie.Need-figure-in-requires Inv-loop μ-loop
-figure-in-requires c κs = search needs
-
-add-i : tie.Need-add-i Inv-loop μ-loop
-add-i c = search needs
-
-loop-less : tie.Need-loop-less Inv-loop μ-loop
-loop-less c = search needs
-
-loop-again : tie.Need-loop-again Inv-loop μ-loop
-loop-again c =
-    let done = c .before .figure-in .ensures in
-    let held = c .before .before .before .before .before .loop .inv .2 in (
-      search needs,
-      search needs,
-      figures-next _ _ _ _ _ held _ _ (omega arith) (search needs) done (omega arith),
-    )
-
-same-length : tie.Need-same-length Inv-loop μ-loop
+same-length : tie.Need-same-length
 same-length c = search needs
 
-returns : tie.Need-returns Inv-loop μ-loop
-returns c = (search (needs, figures-done), row-figures)
+returns : tie.Need-returns
+returns c = search (needs, row-figures)
+
+whole-row-in-requires : tie.Need-whole-row-in-requires
+whole-row-in-requires c κs = search needs
+
+same-length-2 : tie.Need-same-length-2
+same-length-2 c = search needs
+
+returns-2 : tie.Need-returns-2
+returns-2 c = search (needs, row-figures)
 
 pub figures-in-spec : {M : Type 1} → statement M
 figures-in-spec =
     tie.close
     (tie.spec
-    Inv-loop
-    μ-loop
-    loop-holds
-    mul-figure-in
-    mul-figure-in-2
-    shared-slice-copy-out-figure-in
-    figure-in-requires
-    add-i
-    loop-less
-    loop-again
+    mul-if1
+    part-row-in-requires
     same-length
-    returns)
+    returns
+    whole-row-in-requires
+    same-length-2
+    returns-2)

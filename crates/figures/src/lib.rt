@@ -5,7 +5,7 @@ ghost use Prim.Native.Nat.{_+_, _*_, _<_, _≤_};
 ghost use lib.IntN.{_+ℤ_};
 ghost use lib.ListN.{length};
 ghost use Rattle.numbers.specs.TwosComplement.{signedOf, codeOf};
-ghost use Rattle.figures.specs.Figure.{half64, wrapped, lesser, greater, figureAfter, RunningFigures};
+ghost use Rattle.figures.specs.Figure.{half64, wrapped, lesser, greater, RunningFigures};
 ghost use Rattle.figures.specs.Figure.{pickedIn, boundsIn, figureIn};
 ghost use Rattle.figures.specs.Rows.{figuresAfter, RowFigures};
 ghost use Rattle.figures.specs.BitCounts.{bitCountsAfter, BitCounts};
@@ -46,45 +46,6 @@ fn wrapping_add(a: i64, b: i64) -> i64
     signed(std::num::wrapping_add_u64(code_of(a), code_of(b)))
 }
 
-fn lesser_of(a: i64, b: i64) -> i64
-    ensures { λ r. ⌜ r ≡ lesser a b ⌝ }
-{
-    if b < a {
-        return b;
-    }
-    a
-}
-
-fn greater_of(a: i64, b: i64) -> i64
-    ensures { λ r. ⌜ r ≡ greater a b ⌝ }
-{
-    if a < b {
-        return b;
-    }
-    a
-}
-
-// The figure after one value more, by how many samples there were before it.
-pub fn figure_after(samples: u64, figure: Figure, value: i64) -> Figure
-    ensures { λ r. ⌜ (r ≡ figureAfter samples figure value) × RunningFigures ⌝ }
-{
-    let sum = wrapping_add(figure.sum, value);
-    if samples == 0 {
-        return Figure {
-            least: value,
-            greatest: value,
-            sum,
-        };
-    }
-    let least = lesser_of(figure.least, value);
-    let greatest = greater_of(figure.greatest, value);
-    Figure {
-        least,
-        greatest,
-        sum,
-    }
-}
-
 // The lesser, or the greater, of the number at a place and a value, in its place. Most values change neither, and then
 // nothing is stored.
 fn lesser_in(figures: &mut [i64], at: usize, value: i64)
@@ -119,7 +80,7 @@ fn bounds_in(figures: &mut [i64], at: usize, samples: u64, value: i64)
     figures[at + 1] = value;
 }
 
-// All three numbers. Where it is called for a row, the compiler tests the samples once before the loop.
+// All three numbers of one. Where it is called for a row, the compiler tests the samples once before the loop.
 fn value_in(figures: &mut [i64], at: usize, samples: u64, value: i64)
     requires { ⌜ at + 3 ≤ length (now figures) ⌝ }
     ensures { λ r. ⌜ now (figures .exit) ≡ figureIn (now (figures .entry)) at samples value ⌝ }
@@ -128,10 +89,10 @@ fn value_in(figures: &mut [i64], at: usize, samples: u64, value: i64)
     figures[at + 2] = wrapping_add(figures[at + 2], value);
 }
 
-// The same in place, where the three numbers of a figure are kept in a slice from a place on: least, greatest, sum. A
-// slice that has not so many stays.
+// One value more of a reading, by how many samples there were before it. The three numbers of its figure are kept in a slice
+// from a place on: least, greatest, sum. A slice that has not so many stays.
 pub fn figure_in(figures: &mut [i64], at: usize, samples: u64, value: i64)
-    ensures { λ r. ⌜ now (figures .exit) ≡ figureIn (now (figures .entry)) at samples value ⌝ }
+    ensures { λ r. ⌜ (now (figures .exit) ≡ figureIn (now (figures .entry)) at samples value) × RunningFigures ⌝ }
 {
     if figures.len() < 3 {
         return;

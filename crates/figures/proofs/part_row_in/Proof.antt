@@ -38,7 +38,7 @@ loop-less c = search needs
 
 loop-again : tie.Need-loop-again Inv-loop μ-loop
 loop-again c =
-    let done = c .before .figure-in .ensures in
+    let done = c .before .figure-in .ensures .0 in
     let held = c .before .before .before .before .before .loop .inv .2 in (
       search needs,
       search needs,

@@ -23,7 +23,7 @@ use libc::STDOUT_FILENO;
 use text::put_byte;
 use text::put_bytes;
 use text::put_decimal;
-use text::put_small_hex;
+use text_hex::put_small_hex;
 use w83782d::Monitor;
 use w83782d_layout::samples::Sample;
 

@@ -5,10 +5,11 @@ use mathlib.Core.List.{List, [], _∷_}
 use lib.IntN.{ℤ, pos, negsuc}
 use Rattle.bits.specs.Bits.{bit}
 use Rattle.figures.specs.Figure.{figure, lesser, greater, pickedFrom, picked, sumOf}
-use Rattle.figures.specs.Figure.{lowBits, wrapped, figureOf, figureAfter}
+use Rattle.figures.specs.Figure.{figureOf, figureAfter}
 use Rattle.figures.specs.Rows.{figuresAfter, column, figuresOf}
 use Rattle.figures.specs.BitCounts.{bitCountsFrom, bitCountsAfter, bitCountsOver, bytesWithBit, bitsOf}
 use Rattle.numbers.specs.TwosComplement.{signedOf}
+use Rattle.numbers.specs.Wrapping.{lowBits, wrapped}
 
 of-none : figureOf [] ≡ figure (pos 0) (pos 0) (pos 0)
 unfolding picked sumOf wrapped lowBits signedOf

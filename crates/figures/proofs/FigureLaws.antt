@@ -7,22 +7,18 @@ use mathlib.Core.List.{List, [], _∷_, _++_}
 use mathlib.Core.List.{List·Memᴰ, List·Memᴰ·head, List·Memᴰ·tail, List·Memᴰ·cases-cons, List·Memᴰ·not-nil}
 use Prim.Native.Nat.{ℕ, suc, _+_, _*_, _^_, _<_, _≤_}
 use native.Mathlib.Omega.{arith}
-use borrow.Author.Tests.{lt-ltb, ltb-true, eq-eqb, ne-eqb}
+use borrow.Author.Tests.{lt-ltb, ltb-true, ne-eqb}
 use lib.Dec.{ltb}
 use lib.IntN.{ℤ, pos, negsuc, natAbs, subℕ, _+ℤ_, +ℤ-assoc, +ℤ-idl, +ℤ-idr}
 use lib.ListN.{length}
 use lib.Signed.{_≤ℤ_, ≤ℤ-refl}
-use mir.Syntax.{w64}
-use mir.Val.{SFits}
-use mir.ValLaws.{toZ-ofZ}
 use Rattle.numbers.specs.TwosComplement.{holds}
-use Rattle.numbers.proofs.twos_complement.Turned.{read}
-use Rattle.figures.specs.Figure.{figure, lesser, greater, pickedFrom, picked, sumOf, half64, wrapped}
+use Rattle.figures.specs.Figure.{figure, lesser, greater, pickedFrom, picked, sumOf}
+use Rattle.numbers.specs.Wrapping.{half64, wrapped}
 use Rattle.figures.specs.Figure.{figureOf, figureAfter, Within, RunningFigures}
-use Rattle.figures.specs.declared.Figure.{Figure}
 use Rattle.figures.proofs.Order.{at-most-trans, lesser-left, lesser-right, lesser-one}
 use Rattle.figures.proofs.Order.{greater-left, greater-right, greater-one}
-use Rattle.figures.proofs.Wrapping.{wrapped-more, wrapped-same}
+use Rattle.numbers.proofs.wrapping.Sums.{wrapped-more, wrapped-same}
 
 module _ (pick : ℤ → ℤ → ℤ) where
   -- ---- one value more
@@ -116,23 +112,3 @@ running-figures =
       sum = λ zs m l. wrapped-same (sumOf zs) (small-holds (sumOf zs) (omega (arith, size-sum (2 ^ 32) zs m)));
       size = size-sum;
     }
-
--- ---- as the code makes it, which reads back what it is handed
-module _ (samples : ℕ) (f : Figure) (z s : ℤ) (fs : SFits w64 (f .sum)) (fz : SFits w64 z) (fr : SFits w64 s)
-    (es : s ≡ wrapped (read w64 (f .sum) +ℤ read w64 z)) where
-  sum-is : s ≡ wrapped (f .sum +ℤ z)
-  sum-is = rw (toZ-ofZ w64 (f .sum) fs, toZ-ofZ w64 z fz) at es
-
-  pub figure-first : samples ≡ 0 → figure (read w64 z) (read w64 z) (read w64 s) ≡ figureAfter samples f z
-  unfolding figureAfter
-  figure-first e = rw (eq-eqb samples 0 e, toZ-ofZ w64 z fz, toZ-ofZ w64 s fr) (ap (figure z z) sum-is)
-
-  pub figure-more : (l g : ℤ) → (samples ≡ 0 → ⊥) → SFits w64 (f .least) → SFits w64 (f .greatest)
-      → SFits w64 l → SFits w64 g → l ≡ lesser (read w64 (f .least)) (read w64 z)
-      → g ≡ greater (read w64 (f .greatest)) (read w64 z)
-      → figure (read w64 l) (read w64 g) (read w64 s) ≡ figureAfter samples f z
-  unfolding figureAfter
-  figure-more l g n fl fg hl hg el eg =
-      let a : l ≡ lesser (f .least) z = rw (toZ-ofZ w64 (f .least) fl, toZ-ofZ w64 z fz) at el in
-      let b : g ≡ greater (f .greatest) z = rw (toZ-ofZ w64 (f .greatest) fg, toZ-ofZ w64 z fz) at eg in
-      rw (ne-eqb samples 0 n, toZ-ofZ w64 l hl, toZ-ofZ w64 g hg, toZ-ofZ w64 s fr, ← a, ← b, ← sum-is) refl

@@ -8,12 +8,8 @@ use borrow.Author.Tests.{ltb-true}
 use lib.Dec.{T, le→leb}
 use lib.IntN.{ℤ, pos, negsuc}
 use lib.Signed.{ltZ, _≤ℤ_, leZ-yes, ltZ-yes, ltZ-no, ≤ℤ-refl, <ℤ-≤ℤ-trans, clashℤ}
-use mir.Syntax.{w64}
-use mir.Val.{SFits}
-use mir.ValLaws.{toZ-ofZ}
 use Rattle.bits.specs.Bits.{choose}
 use Rattle.bits.proofs.BitLaws.{choose-ind}
-use Rattle.numbers.proofs.twos_complement.Turned.{read}
 use Rattle.figures.specs.Figure.{lesser, greater}
 
 less-at-most : (a b : ℤ) → ltZ a b ≡ true → a ≤ℤ b
@@ -60,15 +56,3 @@ module _ (a b : ℤ) where
   pub greater-one : (greater a b ≡ a) ⊎ (greater a b ≡ b)
   unfolding greater
   greater-one = one-of-two (ltZ a b)
-
-  -- ---- by the test of the code, which reads both back
-  module _ (fa : SFits w64 a) (fb : SFits w64 b) where
-    pub lesser-is : (t : Bool) → ltZ (read w64 b) (read w64 a) ≡ t → read w64 (choose t b a) ≡ lesser a b
-    unfolding lesser
-    lesser-is true e = rw (rw (toZ-ofZ w64 a fa, toZ-ofZ w64 b fb) at e) (toZ-ofZ w64 b fb)
-    lesser-is false e = rw (rw (toZ-ofZ w64 a fa, toZ-ofZ w64 b fb) at e) (toZ-ofZ w64 a fa)
-
-    pub greater-is : (t : Bool) → ltZ (read w64 a) (read w64 b) ≡ t → read w64 (choose t b a) ≡ greater a b
-    unfolding greater
-    greater-is true e = rw (rw (toZ-ofZ w64 a fa, toZ-ofZ w64 b fb) at e) (toZ-ofZ w64 b fb)
-    greater-is false e = rw (rw (toZ-ofZ w64 a fa, toZ-ofZ w64 b fb) at e) (toZ-ofZ w64 a fa)

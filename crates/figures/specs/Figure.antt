@@ -2,14 +2,13 @@
 use mathlib.Core.Path.{_≡_}
 use mathlib.Core.Logic.{_≢_}
 use mathlib.Core.List.{List, [], _∷_, _++_, List·Memᴰ}
-use Prim.Native.Nat.{ℕ, _+_, _-_, _*_, _%_, _^_, _≤_}
-use lib.Dec.{eqb, leb}
-use lib.IntN.{ℤ, pos, negsuc, natAbs, _+ℤ_}
-use lib.ListN.{length, getD, set}
-use lib.Seq.{sets}
+use Prim.Native.Nat.{ℕ, _+_, _-_, _*_, _^_, _≤_}
+use lib.Dec.{eqb}
+use lib.IntN.{ℤ, pos, natAbs, _+ℤ_}
+use lib.ListN.{length, getD}
 use lib.Signed.{ltZ, _≤ℤ_}
 use Rattle.bits.specs.Bits.{choose}
-use Rattle.numbers.specs.TwosComplement.{signedOf}
+use Rattle.numbers.specs.Wrapping.{wrapped}
 use Rattle.figures.specs.declared.Figure.{Figure}
 
 abbrev pub figure : ℤ → ℤ → ℤ → Figure
@@ -45,18 +44,6 @@ sumOf (z ∷ zs) = z +ℤ sumOf zs
 
 -- ---- in 64 bits
 
-abbrev pub half64 : ℕ
-half64 = 2 ^ 63
-
--- the low 64 bits of a number in two's complement
-unfoldable pub lowBits : ℤ → ℕ
-lowBits (pos n) = n % (2 * half64)
-lowBits (negsuc n) = 2 * half64 - 1 - n % (2 * half64)
-
--- the number that they are
-unfoldable pub wrapped : ℤ → ℤ
-wrapped z = signedOf half64 (lowBits z)
-
 -- the sum as far as 64 bits hold it; the other two are values, which 64 bits hold
 abbrev pub figureOf : List ℤ → Figure
 figureOf zs = figure (leastOf zs) (greatestOf zs) (wrapped (sumOf zs))
@@ -77,19 +64,6 @@ figureAt zs at = figure (getD zs at (pos 0)) (getD zs (at + 1) (pos 0)) (getD zs
 
 abbrev pub figureNumbers : Figure → List ℤ
 figureNumbers f = f .least ∷ f .greatest ∷ f .sum ∷ []
-
--- on the way there: one number after one value more, and the least and the greatest
-abbrev pub pickedIn : (ℤ → ℤ → ℤ) → List ℤ → ℕ → ℤ → List ℤ
-pickedIn pick zs at z = set zs at (pick (getD zs at (pos 0)) z)
-
-unfoldable pub boundsIn : List ℤ → ℕ → ℕ → ℤ → List ℤ
-boundsIn zs at samples z =
-    let f : Figure = figureAfter samples (figureAt zs at) z in set (set zs at (f .least)) (at + 1) (f .greatest)
-
--- one value more where it is kept; a slice that has not so many numbers stays
-unfoldable pub figureIn : List ℤ → ℕ → ℕ → ℤ → List ℤ
-figureIn zs at samples z =
-    choose (leb (at + 3) (length zs)) (sets zs at (figureNumbers (figureAfter samples (figureAt zs at) z))) zs
 
 -- ---- what figures mean
 

@@ -1,3 +1,4 @@
 pub mod Numbers
 pub mod Rounding
 pub mod TwosComplement
+pub mod Wrapping

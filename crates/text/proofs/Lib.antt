@@ -2,4 +2,3 @@ pub mod Puts
 pub mod Decimal
 pub mod Point
 pub mod Sign
-pub mod Hex

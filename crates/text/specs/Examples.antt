@@ -3,7 +3,6 @@ use mathlib.Core.Path.{_≡_, refl}
 use lib.IntN.{pos, negsuc}
 use Rattle.text.specs.Text.{ascii}
 use Rattle.text.specs.Numbers.{spell, decimal, lastDigits, pointed, places, signed, signedPlaces}
-use Rattle.text.specs.Numbers.{hexDigit, hexWith, hex, smallHex}
 
 decimal-0 : decimal 0 ≡ ascii "0"
 unfolding decimal spell
@@ -25,18 +24,6 @@ signed-12 = refl
 signed-128-below : signed (negsuc 127) ≡ ascii "-128"
 unfolding signed decimal spell
 signed-128-below = refl
-
-hex-2A : hex 42 ≡ ascii "2A"
-unfolding hexWith hexDigit
-hex-2A = refl
-
-small-hex-2a : smallHex 42 ≡ ascii "2a"
-unfolding hexWith hexDigit
-small-hex-2a = refl
-
-hex-09 : hex 9 ≡ ascii "09"
-unfolding hexWith hexDigit
-hex-09 = refl
 
 -- 4,411.8 as tenths, 0.05 as hundredths, a number with no point
 places-44118 : places 1 44118 ≡ ascii "4411.8"

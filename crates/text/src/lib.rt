@@ -1,12 +1,10 @@
 // Text in a lent buffer. A `put` writes as far as the buffer goes and answers the place after its characters, also where
 // that is past the buffer's end: so puts follow one another with no test between them, and the last place tells whether
-// all of it fitted. Crate `text_push` has pushes, which write all of their characters or none.
+// all of it fitted. Crate `text_hex` has digits of base 16, and `text_push` has pushes, which write all of their characters or none.
 ghost use mathlib.Core.Path.{_≡_};
 ghost use mathlib.Core.List.{[], _∷_};
-ghost use Prim.Native.Nat.{_<_};
 ghost use Rattle.text.specs.Text.{Put};
 ghost use Rattle.text.specs.Numbers.{digit, decimal, spaced, places, pointed, magnitudeOf, signed, signedPlaces};
-ghost use Rattle.text.specs.Numbers.{hexDigit, hexWith, hex, smallHex};
 
 // One character.
 pub fn put_byte(out: &mut [u8], at: usize, byte: u8) -> usize
@@ -115,39 +113,4 @@ pub fn put_signed_places(out: &mut [u8], at: usize, z: i64, digits: u8) -> usize
         return put_places(out, next, n, digits);
     }
     put_places(out, at, n, digits)
-}
-
-// The last digit of a number in base 16, with the letters from a given one on.
-fn hex_digit(letter: u8, n: u8) -> u8
-    requires { ⌜ letter < 128 ⌝ }
-    ensures { λ r. ⌜ r ≡ hexDigit letter n ⌝ }
-{
-    let d = n % 16;
-    if d < 10 {
-        return b'0' + d;
-    }
-    letter + (d - 10)
-}
-
-// A byte as two digits of base 16.
-fn put_hex_with(out: &mut [u8], at: usize, letter: u8, byte: u8) -> usize
-    requires { ⌜ letter < 128 ⌝ }
-    ensures { λ r. ⌜ Put (now (out .entry)) at (hexWith letter byte) (now (out .exit)) r ⌝ }
-{
-    let next = put_byte(out, at, hex_digit(letter, byte / 16));
-    put_byte(out, next, hex_digit(letter, byte))
-}
-
-// A byte as two digits of base 16, in capitals.
-pub fn put_hex(out: &mut [u8], at: usize, byte: u8) -> usize
-    ensures { λ r. ⌜ Put (now (out .entry)) at (hex byte) (now (out .exit)) r ⌝ }
-{
-    put_hex_with(out, at, b'A', byte)
-}
-
-// A byte as two digits of base 16, in small letters.
-pub fn put_small_hex(out: &mut [u8], at: usize, byte: u8) -> usize
-    ensures { λ r. ⌜ Put (now (out .entry)) at (smallHex byte) (now (out .exit)) r ⌝ }
-{
-    put_hex_with(out, at, b'a', byte)
 }

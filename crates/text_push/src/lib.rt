@@ -3,14 +3,14 @@
 ghost use mathlib.Core.Path.{_≡_};
 ghost use Rattle.text_push.specs.Pushed.{page, pushed, Pushes};
 ghost use Rattle.text.specs.Numbers.{decimal, Decimals, places, Places, signed, Signs, signedPlaces};
-ghost use Rattle.text.specs.Numbers.{capital, small, hex, smallHex, Hexes};
+ghost use Rattle.text_hex.specs.Hex.{capital, small, hex, smallHex, Hexes};
 use text::put_bytes;
 use text::put_decimal;
-use text::put_hex;
 use text::put_places;
 use text::put_signed;
 use text::put_signed_places;
-use text::put_small_hex;
+use text_hex::put_hex;
+use text_hex::put_small_hex;
 
 // The place after what was pushed; or, where it did not fit, the place where it was to be.
 pub struct Pos {

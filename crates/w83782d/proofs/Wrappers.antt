@@ -8,9 +8,9 @@ use native.Mathlib.Omega.{arith}
 use borrow.Author.Tests.{eq-eqb}
 use lib.ListN.{length}
 use Rattle.w83782d_map.specs.Map.{cells}
-use Rattle.w83782d_registers.specs.Effects.{powerOnLatches}
+use Rattle.w83782d_latches.specs.Effects.{powerOnLatches}
 use Rattle.w83782d_bus.specs.Bus.{powerOn, written, Written, Read, sized, sizedRead, outcomeIn, readOutcomeIn}
-use Rattle.w83782d_registers.specs.declared.latches.Latches.{Latches}
+use Rattle.w83782d_latches.specs.declared.Latches.{Latches}
 use Rattle.w83782d_bus.specs.declared.Outcome.{Outcome}
 use Rattle.w83782d_bus.specs.declared.ReadOutcome.{ReadOutcome}
 use Rattle.w83782d_readings.specs.Outputs.{smiOf, standingAlarms, outputsOf}

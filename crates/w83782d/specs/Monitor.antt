@@ -6,7 +6,7 @@ use Rattle.w83782d_sample.specs.Sample as Rule
 use Rattle.w83782d_replay.specs.Replay as Replay
 use Rattle.w83782d_plan.specs.Plan as Plan
 use Rattle.w83782d_bus.specs.Bus as Bus
-use Rattle.w83782d_registers.specs.Effects.{openedLatches}
+use Rattle.w83782d_latches.specs.Effects.{openedLatches}
 use Rattle.w83782d_bus.specs.Bus.{State, Written, Read, powerOn}
 use Rattle.w83782d.specs.declared.Monitor.{Monitor}
 use Rattle.w83782d.specs.declared.Answered.{Answered}

@@ -15,8 +15,8 @@ use Rattle.w83782d_map.specs.Access.{writeAnswer, storedBits}
 use Rattle.w83782d_registers.specs.Registers.{reachOf, powerOnRegisters, resetRegisters, shownOf}
 use Rattle.w83782d_registers.specs.Parts.{restoredRegisters, restoredIn}
 use Rattle.w83782d_registers.proofs.Cases.{restored-in}
-use Rattle.w83782d_registers.specs.declared.latches.Latches.{Latches}
-use Rattle.w83782d_registers.specs.Effects.{powerOnLatches, writtenLatches, readLatches}
+use Rattle.w83782d_latches.specs.declared.Latches.{Latches}
+use Rattle.w83782d_latches.specs.Effects.{powerOnLatches, writtenLatches, readLatches}
 use Rattle.w83782d_bus.specs.Bus.{state, powerOn, writtenRegisters, writtenIn, writeOf, written, readRegisters, readIn, readOf, read, sized, sizedRead}
 
 -- ---- power-on and reset

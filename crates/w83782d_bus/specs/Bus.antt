@@ -10,8 +10,8 @@ use Rattle.w83782d_map.specs.Map.{presentAt, fits}
 use Rattle.w83782d_map.specs.Cells.{configuration, interruptStatus1, interruptStatus2}
 use Rattle.w83782d_map.specs.Access.{writeAnswer, storedBits}
 use Rattle.w83782d_registers.specs.Registers.{reachOf, powerOnRegisters, resetRegisters, shownOf}
-use Rattle.w83782d_registers.specs.declared.latches.Latches.{Latches}
-use Rattle.w83782d_registers.specs.Effects.{powerOnLatches, writtenLatches, readLatches}
+use Rattle.w83782d_latches.specs.declared.Latches.{Latches}
+use Rattle.w83782d_latches.specs.Effects.{powerOnLatches, writtenLatches, readLatches}
 use Rattle.w83782d_bus.specs.declared.Outcome.{Outcome}
 use Rattle.w83782d_bus.specs.declared.ReadOutcome.{ReadOutcome}
 

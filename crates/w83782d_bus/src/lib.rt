@@ -1,13 +1,16 @@
 // The register side of the W83782D, in place on the registers' slice with the small latches by value:
 // power-on, bus write, bus read and reset.
 ghost use mathlib.Core.Path.{_≡_};
-ghost use Rattle.w83782d_registers.specs.Effects.{powerOnLatches};
+ghost use Rattle.w83782d_latches.specs.Effects.{powerOnLatches};
 ghost use Rattle.w83782d_bus.specs.Bus.{state, powerOn, writtenIn, writeOf, written, readIn, readOf, sized, sizedRead, outcomeIn, readOutcomeIn};
 use answers::ABSENT;
 use answers::ACCEPTED;
 use answers::WRONG_LENGTH;
 use bits::put;
 use bits::store;
+use w83782d_latches::Latches;
+use w83782d_latches::read_latches;
+use w83782d_latches::write_latches;
 use w83782d_map::CELLS;
 use w83782d_map::CONFIGURATION;
 use w83782d_map::INTERRUPT_STATUS_1;
@@ -16,9 +19,6 @@ use w83782d_map::answer_to_write;
 use w83782d_map::is_present;
 use w83782d_map::stored_bits;
 use w83782d_registers::is_command;
-use w83782d_registers::latches::Latches;
-use w83782d_registers::latches::read_latches;
-use w83782d_registers::latches::write_latches;
 use w83782d_registers::reach;
 use w83782d_registers::restore;
 use w83782d_registers::shown;

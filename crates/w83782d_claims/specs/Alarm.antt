@@ -15,7 +15,7 @@ use Rattle.w83782d_layout.specs.declared.samples.Sample.{Sample}
 use Rattle.w83782d_map.specs.Map.{cells, at}
 use Rattle.w83782d_map.specs.Cells.{fanCount, realTimeStatus1, realTimeStatus2}
 use Rattle.w83782d_registers.specs.Registers.{resetRegisters}
-use Rattle.w83782d_registers.specs.Effects.{openedLatches}
+use Rattle.w83782d_latches.specs.Effects.{openedLatches}
 use Rattle.w83782d_bus.specs.Bus.{State, state, Written, written, writeOf, readOf}
 use Rattle.w83782d_store.specs.Stored as Stored
 use Rattle.w83782d_sample.specs.Sample.{sampleOf}

@@ -17,7 +17,7 @@ use Rattle.w83782d_map.specs.Map.{cells, presentAt, writableAt, powerOnAt, kept
 use Rattle.w83782d_map.specs.Cells.{bankSelect, chassisClear, chipId, configuration, deviceId, interruptStatus1, interruptStatus2, realTimeStatus2, vendorId, vidFanDivisor}
 use Rattle.w83782d_map.specs.Access.{storedBits}
 use Rattle.w83782d_registers.specs.Registers.{bankOf, reachOf, isCommand, shownOf}
-use Rattle.w83782d_registers.specs.Effects.{latches, remoteOf, releases}
+use Rattle.w83782d_latches.specs.Effects.{latches, remoteOf, releases}
 use Rattle.w83782d_bus.specs.Bus.{State, state, writeOf, readOf}
 
 -- ---- every state of the monitor: 112 cells, each a byte, and any latches

@@ -20,7 +20,7 @@ use Rattle.w83782d_layout.specs.declared.samples.Sample.{Sample}
 use Rattle.w83782d_map.specs.Map.{cells, bankAt, indexAt}
 use Rattle.w83782d_map.specs.Cells.{bankCell, beepControl1, beepControl2, busAddress, configuration, diodeSelection, fanCount, fanLimit, gpoControl, interruptStatus1, interruptStatus2, ovtProperty, pinControl, pwmClock, realTimeStatus1, realTimeStatus2, remoteAddress, sensor1Value, sensorConfiguration, smiMask1, smiMask2, vbatFanDivisor, voltage}
 use Rattle.w83782d_registers.specs.Registers.{reachOf}
-use Rattle.w83782d_registers.specs.Effects.{remoteOf}
+use Rattle.w83782d_latches.specs.Effects.{remoteOf}
 use Rattle.w83782d_bus.specs.Bus.{State, Written, writeOf, readOf}
 use Rattle.w83782d_claims.specs.BusClaims.{Whole, cellIn, shownIn}
 use Rattle.w83782d_claims.specs.Sampled.{halvesAt, isHotter, isColder, isSlower, isBeside, holdsFor, flagAt}

@@ -8,7 +8,8 @@ use lib.ListN.{replicate}
 use Rattle.bits.specs.Bits.{bit}
 use Rattle.status.specs.Status.{statusBits, noBits}
 use Rattle.numbers.specs.TwosComplement.{signedOf}
-use Rattle.figures.specs.Figure.{picked, sumOf, lowBits, wrapped}
+use Rattle.numbers.specs.Wrapping.{lowBits, wrapped}
+use Rattle.figures.specs.Figure.{picked, sumOf}
 use Rattle.figures.specs.Rows.{column, figuresOf}
 use Rattle.figures.specs.BitCounts.{bytesWithBit, bitsOf}
 use Rattle.w83782d_layout.specs.declared.samples.Sample.{Sample as Readings}

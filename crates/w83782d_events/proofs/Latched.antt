@@ -27,8 +27,8 @@ use Rattle.w83782d_map.specs.Map.{cells, presentAt, writableAt, powerOnAt, kept
 use Rattle.w83782d_map.specs.Cells.{chassisClear, configuration, interruptStatus1, interruptStatus2}
 use Rattle.w83782d_map.specs.Access.{writeAnswer}
 use Rattle.w83782d_registers.specs.Registers.{bankOf, reachOf, isCommand}
-use Rattle.w83782d_registers.specs.declared.latches.Latches.{Latches}
-use Rattle.w83782d_registers.specs.Effects.{latches}
+use Rattle.w83782d_latches.specs.declared.Latches.{Latches}
+use Rattle.w83782d_latches.specs.Effects.{latches}
 use Rattle.w83782d_bus.specs.Bus.{State, state, Written, writtenAt, writeOf, readOf}
 use Rattle.w83782d_store.specs.Stored.{storedReadings, sampleAnswer}
 use Rattle.w83782d_sample.specs.Sample.{firstByte, secondByte, latchedBy, latchedByte, statusAt, sampleOf, latchedOf}

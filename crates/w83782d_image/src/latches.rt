@@ -15,7 +15,7 @@ use sensor::Output;
 use sensor::Remote;
 use sensor::is_hot;
 use sensor::mark_if;
-use w83782d_registers::latches::Latches;
+use w83782d_latches::Latches;
 
 // The bytes of an image.
 pub const IMAGE: usize = 128;

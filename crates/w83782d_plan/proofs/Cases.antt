@@ -11,7 +11,7 @@ use Rattle.in_force.specs.Settings.{fanAt, plannedRegisters}
 use Rattle.fan.specs.Plan.{planAnswer}
 use Rattle.fan.specs.Search.{planOf}
 use Rattle.fan.specs.declared.planner.Planned.{Planned}
-use Rattle.w83782d_registers.specs.declared.latches.Latches.{Latches}
+use Rattle.w83782d_latches.specs.declared.Latches.{Latches}
 use Rattle.w83782d_map.specs.Map.{cells}
 use Rattle.w83782d_bus.specs.Bus.{state, written, sized}
 use Rattle.w83782d_store.specs.Stored.{divisorPlaces}

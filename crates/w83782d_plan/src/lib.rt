@@ -7,9 +7,9 @@ use answers::WRONG_LENGTH;
 use fan::planner::plan;
 use in_force::plan_bits::put_plan;
 use w83782d_bus::Outcome;
+use w83782d_latches::Latches;
 use w83782d_map::CELLS;
 use w83782d_map::FAN_LIMITS;
-use w83782d_registers::latches::Latches;
 use w83782d_store::divisor_field;
 
 // An alarm for a fan, 1 to 3, at a speed of 1 to 1,350,000 turns a minute. Refused as 7 or 6 it leaves registers and latches;

@@ -1,4 +1,2 @@
 pub mod Registers
 pub mod Parts
-pub mod Effects
-pub mod Ovt

@@ -8,9 +8,6 @@ ghost use Rattle.bits.specs.Bits.{isOn};
 ghost use Rattle.w83782d_map.specs.Cells.{bankCell};
 ghost use Rattle.w83782d_registers.specs.Registers.{cellOf, reachOf, isInterrupt, withChassis, vendorByte, shownOf};
 ghost use Rattle.w83782d_registers.specs.Parts.{restoredByte, restoredIn};
-
-pub mod latches;
-
 use bits::Bit;
 use bits::is_on;
 use w83782d_map::BANK_SELECT;

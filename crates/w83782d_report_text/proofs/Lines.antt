@@ -7,7 +7,7 @@ use native.Mathlib.Numerals.{add-one}
 use lib.IntN.{ℤ}
 use lib.ListN.{length, getD, take, replicate}
 use Rattle.text.specs.Text.{lastPlace, Put, ascii}
-use Rattle.text.specs.Numbers.{hexDigit, hexWith, hex}
+use Rattle.text_hex.specs.Hex.{hexDigit, hexWith, hex}
 use Rattle.text.proofs.Puts.{_then_, put-none}
 use Rattle.figures.specs.Figure.{figureAt}
 use Rattle.report_text.specs.Lines.{readingLine, countLines, endLine}

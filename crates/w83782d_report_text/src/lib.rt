@@ -4,14 +4,14 @@ ghost use mathlib.Core.Path.{_≡_};
 ghost use Prim.Native.Nat.{_+_};
 ghost use lib.ListN.{length};
 ghost use Rattle.text.specs.Text.{Put};
-ghost use Rattle.text.specs.Numbers.{hex};
+ghost use Rattle.text_hex.specs.Hex.{hex};
 ghost use Rattle.w83782d_day.specs.Report.{summaryOf};
 ghost use Rattle.w83782d_report.specs.Parts.{viewOf};
 ghost use Rattle.w83782d_report_text.specs.ReportText.{readingLines, latchedLines, reportText};
 use report_text::put_counts;
 use report_text::put_end;
 use report_text::put_reading;
-use text::put_hex;
+use text_hex::put_hex;
 use w83782d_report::Report;
 
 // The readings that have a register of bank 0, from 20h on: the codes, sensor 1 and the counts.

@@ -19,8 +19,8 @@ use Rattle.sensor.specs.declared.Output.{Output}
 use Rattle.sensor.specs.declared.Remote.{Remote}
 use Rattle.status.specs.Status.{statusBits}
 use Rattle.w83782d_layout.specs.declared.samples.Sample.{Sample}
-use Rattle.w83782d_registers.specs.declared.latches.Latches.{Latches}
-use Rattle.w83782d_registers.specs.Effects.{remoteOf}
+use Rattle.w83782d_latches.specs.declared.Latches.{Latches}
+use Rattle.w83782d_latches.specs.Effects.{remoteOf}
 use Rattle.w83782d_map.specs.Map.{cells}
 use Rattle.w83782d_map.specs.Cells.{interruptStatus1, interruptStatus2, realTimeStatus1, realTimeStatus2}
 use Rattle.w83782d_bus.specs.Bus.{state, sized, outcomeIn}

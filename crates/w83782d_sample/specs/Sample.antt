@@ -15,8 +15,8 @@ use Rattle.sensor.specs.declared.Remote.{Remote}
 use Rattle.status.specs.Status.{statusBits, noBits}
 use Rattle.status.specs.declared.StatusBits.{StatusBits}
 use Rattle.w83782d_layout.specs.declared.samples.Sample.{Sample}
-use Rattle.w83782d_registers.specs.declared.latches.Latches.{Latches}
-use Rattle.w83782d_registers.specs.Effects.{latches, remoteOf}
+use Rattle.w83782d_latches.specs.declared.Latches.{Latches}
+use Rattle.w83782d_latches.specs.Effects.{latches, remoteOf}
 use Rattle.w83782d_map.specs.Cells.{interruptStatus1, interruptStatus2, realTimeStatus1, realTimeStatus2}
 use Rattle.w83782d_bus.specs.Bus.{State, state, Written, written}
 use Rattle.w83782d_store.specs.Stored.{storedReadings, sampleAnswer}

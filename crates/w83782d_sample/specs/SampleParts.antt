@@ -10,7 +10,7 @@ use Rattle.status.specs.Status.{statusBits, noBits}
 use Rattle.status.specs.declared.StatusBits.{StatusBits}
 use Rattle.w83782d_layout.specs.declared.samples.Sample.{Sample}
 use Rattle.w83782d_map.specs.Map.{fits}
-use Rattle.w83782d_registers.specs.declared.latches.Latches.{Latches}
+use Rattle.w83782d_latches.specs.declared.Latches.{Latches}
 use Rattle.w83782d_bus.specs.declared.Outcome.{Outcome}
 use Rattle.w83782d_bus.specs.Bus.{state}
 use Rattle.w83782d_conditions.specs.declared.Comparison.{Comparison}

@@ -20,13 +20,13 @@ use status::StatusBits;
 use w83782d_bus::Outcome;
 use w83782d_conditions::Comparison;
 use w83782d_conditions::compare;
+use w83782d_latches::Latches;
 use w83782d_layout::samples::Sample;
 use w83782d_map::CELLS;
 use w83782d_map::INTERRUPT_STATUS_1;
 use w83782d_map::INTERRUPT_STATUS_2;
 use w83782d_map::REAL_TIME_STATUS_1;
 use w83782d_map::REAL_TIME_STATUS_2;
-use w83782d_registers::latches::Latches;
 use w83782d_store::answer_to;
 use w83782d_store::store;
 

@@ -5,7 +5,7 @@ use mathlib.Core.List.{List, _++_}
 use Prim.Native.Nat.{ℕ, _+_, _*_}
 use borrow.Author.Tests.{eq-eqb, ne-eqb}
 use lib.ListN.{length, take, drop}
-use Rattle.w83782d_registers.specs.declared.latches.Latches.{Latches}
+use Rattle.w83782d_latches.specs.declared.Latches.{Latches}
 use Rattle.w83782d_bus.specs.declared.ReadOutcome.{ReadOutcome}
 use Rattle.w83782d_map.specs.Map.{cells}
 use Rattle.w83782d_bus.specs.Bus.{state, readOf, sizedRead, readOutcomeIn}

@@ -20,13 +20,13 @@ use Rattle.bits.proofs.Every.{every-at, every-at2, same-tests}
 use Rattle.bits.proofs.Restored as restored
 use Rattle.sensor.specs.Sensor.{armed, releasedOf}
 use Rattle.sensor.specs.declared.Remote.{Remote}
-use Rattle.w83782d_registers.specs.declared.latches.Latches.{Latches}
+use Rattle.w83782d_latches.specs.declared.Latches.{Latches}
 use Rattle.w83782d_map.specs.Map.{cells, presentAt, writableAt, powerOnAt, keptAt, rows}
 use Rattle.w83782d_map.specs.Cells.{bankCell, bankSelect, chassisClear, chipId, configuration, deviceId, interruptStatus1, interruptStatus2, realTimeStatus2, vendorId, vidFanDivisor}
 use Rattle.w83782d_map.specs.Access.{writeAnswer, storedBits}
 use Rattle.w83782d_claims.proofs.bus.Named.{register-40, register-46}
 use Rattle.w83782d_registers.specs.Registers.{reachOf, isCommand, isInterrupt, resetRegisters, withChassis, shownOf}
-use Rattle.w83782d_registers.specs.Effects.{remoteOf, writtenLatches, readLatches, withReleased, releases, openedLatches}
+use Rattle.w83782d_latches.specs.Effects.{remoteOf, writtenLatches, readLatches, withReleased, releases, openedLatches}
 use Rattle.w83782d_bus.specs.Bus.{State, state, writtenRegisters, writeOf, readRegisters, readOf, Read, read}
 use Rattle.w83782d_registers.proofs.Cases.{both}
 use Rattle.w83782d_map.proofs.Cells.{answered-cell, present-cell}
@@ -144,7 +144,7 @@ unfolding resetRegisters
 reset-count = restored.reset-count powerOnAt keptAt cells
 
 reset-state : (s : State) (v : ℕ) → isOn v 7 ≡ true
-    → writeOf s 0x40 v ≡ record { state = state (resetRegisters (s .registers)) (Rattle.w83782d_registers.specs.Effects.resetLatches (s .latches)); answer = 0 }
+    → writeOf s 0x40 v ≡ record { state = state (resetRegisters (s .registers)) (Rattle.w83782d_latches.specs.Effects.resetLatches (s .latches)); answer = 0 }
 unfolding writeOf writtenRegisters writtenLatches
 reset-state s v e = rw (register-40 .cell, register-40 .answer) (simp e)
 

@@ -25,12 +25,12 @@ use Rattle.sensor.specs.declared.Status.{Status}
 use Rattle.sensor.specs.declared.Output.{Output}
 use Rattle.sensor.specs.declared.Remote.{Remote}
 use Rattle.w83782d_layout.specs.declared.samples.Sample.{Sample}
-use Rattle.w83782d_registers.specs.declared.latches.Latches.{Latches}
+use Rattle.w83782d_latches.specs.declared.Latches.{Latches}
 use Rattle.w83782d_map.specs.Map.{cells}
 use Rattle.w83782d_map.specs.Cells.{bankCell, fanCount, fanLimit, highLimit, interruptStatus1, interruptStatus2, lowLimit, ovtProperty, realTimeStatus1, realTimeStatus2, sensor1Hysteresis, sensor1Over, sensor1Value, voltage}
 use Rattle.w83782d_registers.specs.Registers.{isInterrupt}
 use Rattle.w83782d_registers.proofs.Cases.{both}
-use Rattle.w83782d_registers.specs.Effects.{latches, remoteOf}
+use Rattle.w83782d_latches.specs.Effects.{latches, remoteOf}
 use Rattle.w83782d_bus.specs.Bus.{State}
 use Rattle.w83782d_store.specs.Stored.{sampledCode, sampledHalves, storedCount, readings, storedReadings}
 use Rattle.w83782d_conditions.specs.Conditions.{isOutside, isAbove, isBelow, isSlow, statusMode, outputMode}

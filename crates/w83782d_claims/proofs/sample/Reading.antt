@@ -15,12 +15,12 @@ use Rattle.bits.specs.Bits.{bit, isOn, choose}
 use Rattle.bits.specs.Stores.{_≔_}
 use Rattle.bits.proofs.Every.{same-tests}
 use Rattle.bits.proofs.Stores.{puts-same}
-use Rattle.w83782d_registers.specs.declared.latches.Latches.{Latches}
+use Rattle.w83782d_latches.specs.declared.Latches.{Latches}
 use Rattle.w83782d_map.specs.Map.{cells, presentAt}
 use Rattle.w83782d_map.specs.Cells.{bankSelect, configuration, interruptStatus1, interruptStatus2}
 use Rattle.w83782d_map.proofs.Cells.{present-cell}
 use Rattle.w83782d_registers.specs.Registers.{cellOf, reachOf, shownOf}
-use Rattle.w83782d_registers.specs.Effects.{readLatches}
+use Rattle.w83782d_latches.specs.Effects.{readLatches}
 use Rattle.w83782d_bus.specs.Bus.{State, state, readRegisters, Read, read, readOf}
 use Rattle.w83782d_claims.specs.BusClaims.{Whole, shownIn, hasRule}
 use Rattle.w83782d_claims.proofs.bus.Reached.{read-answer, refused}

@@ -18,7 +18,7 @@ use Rattle.bits.proofs.Every.{same-below2, same-tests}
 use Rattle.w83782d_map.specs.Cells.{configuration, interruptStatus1, interruptStatus2, smiMask1, smiMask2}
 use Rattle.w83782d_registers.specs.Registers.{shownOf}
 use Rattle.w83782d_claims.proofs.bus.Named.{register-40}
-use Rattle.w83782d_registers.specs.Effects.{writtenLatches}
+use Rattle.w83782d_latches.specs.Effects.{writtenLatches}
 use Rattle.w83782d_bus.specs.Bus.{State, state, Written, written, writtenRegisters, writeOf}
 use Rattle.status.specs.Status.{anyUnmasked}
 use Rattle.status.proofs.StatusLaws.{any-unmasked}

@@ -15,7 +15,7 @@ use Rattle.bits.proofs.ChangeLaws.{and-left, and-right}
 use Rattle.bits.proofs.Every.{same-tests}
 use Rattle.bits.proofs.Stores.{isPlain, isRuled, SameBut, puts-same}
 use Rattle.w83782d_layout.specs.declared.samples.Sample.{Sample}
-use Rattle.w83782d_registers.specs.declared.latches.Latches.{Latches}
+use Rattle.w83782d_latches.specs.declared.Latches.{Latches}
 use Rattle.w83782d_map.specs.Map.{cells, bankAt, indexAt}
 use Rattle.w83782d_map.specs.Cells.{configuration, interruptStatus1, interruptStatus2, smiMask1, smiMask2}
 use Rattle.w83782d_bus.specs.Bus.{State}

@@ -13,7 +13,7 @@ use Rattle.bits.proofs.BitLaws.{choose-ind}
 use Rattle.bits.proofs.Every.{same-tests}
 use Rattle.bits.proofs.Stores.{lastOf, puts-at, puts-length, cellsOf, isOf, puts-other, fewer}
 use Rattle.w83782d_layout.specs.declared.samples.Sample.{Sample}
-use Rattle.w83782d_registers.specs.declared.latches.Latches.{Latches}
+use Rattle.w83782d_latches.specs.declared.Latches.{Latches}
 use Rattle.w83782d_map.specs.Map.{cells, bankAt, indexAt}
 use Rattle.w83782d_bus.specs.Bus.{State, Written}
 use Rattle.w83782d_store.specs.Stored.{readings, storedReadings, sampleAnswer}

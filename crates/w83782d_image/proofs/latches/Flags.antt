@@ -19,8 +19,8 @@ use Rattle.image.proofs.Images.{mark-of, flag-mark}
 use Rattle.sensor.specs.Sensor.{remote, output, armed, isHot, markIf}
 use Rattle.sensor.specs.declared.Mark.{Mark}
 use Rattle.sensor.specs.declared.Remote.{Remote}
-use Rattle.w83782d_registers.specs.Effects.{latches, powerOnLatches}
-use Rattle.w83782d_registers.specs.declared.latches.Latches.{Latches}
+use Rattle.w83782d_latches.specs.Effects.{latches, powerOnLatches}
+use Rattle.w83782d_latches.specs.declared.Latches.{Latches}
 use Rattle.w83782d_image.specs.Image.{imageLength, flagBytes, latchesIn, heldLatches, putFrom}
 use Rattle.w83782d_image.proofs.Images.{put-whole, look-three, look-eight}
 

@@ -1,6 +1,6 @@
 -- A figure kept in a slice: a number that is stored or stays, the least and the greatest, and all three.
 -- Assumes nothing.
-use mathlib.Core.Path.{_≡_, refl, sym, ap, _∙_}
+use mathlib.Core.Path.{_≡_, refl, sym, _∙_}
 use mathlib.Core.Bool.{Bool, true, false}
 use mathlib.Core.List.{List}
 use Prim.Native.Nat.{ℕ, _+_, _<_, _≤_}
@@ -20,39 +20,21 @@ use Rattle.numbers.proofs.twos_complement.Turned.{read}
 use Rattle.numbers.specs.Wrapping.{wrapped}
 use Rattle.figures.specs.declared.Figure.{Figure}
 use Rattle.figures.specs.Figure.{lesser, greater, figureAfter, figureAt}
-use Rattle.figures_kept.specs.Kept.{pickedIn, boundsIn, figureIn}
+use Rattle.figures_kept.specs.Kept.{boundsIn, figureIn}
 
--- ---- the lesser and the greater, by the test of the code, which reads both back
-module _ (a b : ℤ) (fa : SFits w64 a) (fb : SFits w64 b) where
-  lesser-is : (t : Bool) → ltZ (read w64 b) (read w64 a) ≡ t → read w64 (choose t b a) ≡ lesser a b
-  unfolding lesser
-  lesser-is true e = rw (rw (toZ-ofZ w64 a fa, toZ-ofZ w64 b fb) at e) (toZ-ofZ w64 b fb)
-  lesser-is false e = rw (rw (toZ-ofZ w64 a fa, toZ-ofZ w64 b fb) at e) (toZ-ofZ w64 a fa)
+-- ---- one number, stored where a test says so
+pub put-where : (zs : List ℤ) (at : ℕ) (z : ℤ) (t : Bool) → SFits w64 z → t ≡ true
+    → set zs at (read w64 z) ≡ choose t (set zs at z) zs
+put-where zs at z t f e = rw (e, toZ-ofZ w64 z f) refl
 
-  greater-is : (t : Bool) → ltZ (read w64 a) (read w64 b) ≡ t → read w64 (choose t b a) ≡ greater a b
-  unfolding greater
-  greater-is true e = rw (rw (toZ-ofZ w64 a fa, toZ-ofZ w64 b fb) at e) (toZ-ofZ w64 b fb)
-  greater-is false e = rw (rw (toZ-ofZ w64 a fa, toZ-ofZ w64 b fb) at e) (toZ-ofZ w64 a fa)
+pub put-nowhere : (zs : List ℤ) (at : ℕ) (z : ℤ) (t : Bool) → t ≡ false → zs ≡ choose t (set zs at z) zs
+put-nowhere zs at z t e = rw e refl
 
--- ---- one number
-module _ (zs : List ℤ) (at : ℕ) (z : ℤ) (fa : SFits w64 (getD zs at (pos 0))) (fz : SFits w64 z) where
-  -- the one that is there is picked
-  same : (pick : ℤ → ℤ → ℤ) → read w64 (getD zs at (pos 0)) ≡ pick (getD zs at (pos 0)) z → zs ≡ pickedIn pick zs at z
-  same pick e = sym (set-getD zs at (pos 0)) ∙ ap (set zs at) (sym (toZ-ofZ w64 _ fa) ∙ e)
-
-  pub lesser-stored : ltZ (read w64 z) (read w64 (getD zs at (pos 0))) ≡ true
-      → set zs at (read w64 z) ≡ pickedIn lesser zs at z
-  lesser-stored t = ap (set zs at) (lesser-is (getD zs at (pos 0)) z fa fz true t)
-
-  pub lesser-stays : ltZ (read w64 z) (read w64 (getD zs at (pos 0))) ≡ false → zs ≡ pickedIn lesser zs at z
-  lesser-stays t = same lesser (lesser-is (getD zs at (pos 0)) z fa fz false t)
-
-  pub greater-stored : ltZ (read w64 (getD zs at (pos 0))) (read w64 z) ≡ true
-      → set zs at (read w64 z) ≡ pickedIn greater zs at z
-  greater-stored t = ap (set zs at) (greater-is (getD zs at (pos 0)) z fa fz true t)
-
-  pub greater-stays : ltZ (read w64 (getD zs at (pos 0))) (read w64 z) ≡ false → zs ≡ pickedIn greater zs at z
-  greater-stays t = same greater (greater-is (getD zs at (pos 0)) z fa fz false t)
+-- what it is then
+stored-is : (zs : List ℤ) (at : ℕ) (z : ℤ) (t : Bool)
+    → choose t (set zs at z) zs ≡ set zs at (choose t z (getD zs at (pos 0)))
+stored-is zs at z true = refl
+stored-is zs at z false = sym (set-getD zs at (pos 0))
 
 -- ---- all three
 sum-after : (samples : ℕ) (f : Figure) (z : ℤ) → figureAfter samples f z .sum ≡ wrapped (f .sum +ℤ z)
@@ -70,13 +52,24 @@ module _ (zs : List ℤ) (at samples : ℕ) (z : ℤ) (fz : SFits w64 z) where
       let e : samples ≡ 0 = omega arith in
       rw (eq-eqb samples 0 e, toZ-ofZ w64 z fz) refl
 
-  pub bounds-more : (gs hs : List ℤ) → 0 < samples → gs ≡ pickedIn lesser zs at (read w64 z)
-      → hs ≡ pickedIn greater gs (at + 1) (read w64 z) → hs ≡ boundsIn zs at samples z
-  unfolding boundsIn figureAfter
-  bounds-more gs hs h eg eh =
+  -- by two tests: of the least, and, once that is stored, of the greatest
+  pub bounds-more : (gs hs : List ℤ) (t u : Bool) → 0 < samples
+      → SFits w64 (getD zs at (pos 0)) → t ≡ ltZ (read w64 z) (read w64 (getD zs at (pos 0)))
+      → gs ≡ choose t (set zs at (read w64 z)) zs
+      → SFits w64 (getD gs (at + 1) (pos 0)) → u ≡ ltZ (read w64 (getD gs (at + 1) (pos 0))) (read w64 z)
+      → hs ≡ choose u (set gs (at + 1) (read w64 z)) gs → hs ≡ boundsIn zs at samples z
+  unfolding boundsIn figureAfter lesser greater
+  bounds-more gs hs t u h fl et eg fg eu eh =
+      let l : ℤ = getD zs at (pos 0) in
+      let g : ℤ = getD gs (at + 1) (pos 0) in
       let n : samples ≡ 0 → ⊥ = λ e. omega arith in
       let other : at + 1 ≡ at → ⊥ = λ e. omega arith in
-      eh ∙ rw (eg, toZ-ofZ w64 z fz, getD-set-other zs at (at + 1) _ (pos 0) other, ne-eqb samples 0 n) refl
+      let least : gs ≡ set zs at (choose (ltZ z l) z l) =
+      rw (et, toZ-ofZ w64 z fz, toZ-ofZ w64 l fl) at eg ∙ stored-is zs at z (ltZ z l) in
+      let greatest : hs ≡ set gs (at + 1) (choose (ltZ g z) z g) =
+      rw (eu, toZ-ofZ w64 z fz, toZ-ofZ w64 g fg) at eh ∙ stored-is gs (at + 1) z (ltZ g z) in
+      let same : g ≡ getD zs (at + 1) (pos 0) = rw least (getD-set-other zs at (at + 1) _ (pos 0) other) in
+      greatest ∙ rw (same, least, ne-eqb samples 0 n) refl
 
   pub kept-figure : (gs : List ℤ) (s : ℤ) → SFits w64 (getD gs (at + 2) (pos 0)) → SFits w64 s
       → gs ≡ boundsIn zs at samples (read w64 z)

@@ -2,29 +2,20 @@
 // here is of one chip.
 ghost use mathlib.Core.Path.{_≡_};
 ghost use Prim.Native.Nat.{_+_, _*_, _<_, _≤_};
-ghost use lib.ListN.{length};
-ghost use Rattle.figures.specs.Figure.{lesser, greater, RunningFigures};
+ghost use lib.ListN.{length, set};
+ghost use Rattle.bits.specs.Bits.{choose};
+ghost use Rattle.figures.specs.Figure.{RunningFigures};
 ghost use Rattle.figures.specs.Rows.{figuresAfter, RowFigures};
 ghost use Rattle.figures.specs.BitCounts.{bitCountsAfter, BitCounts};
-ghost use Rattle.figures_kept.specs.Kept.{pickedIn, boundsIn, figureIn};
+ghost use Rattle.figures_kept.specs.Kept.{boundsIn, figureIn};
 use numbers::wrapping::wrapping_add;
 
-// The lesser, or the greater, of the number at a place and a value, in its place. Most values change neither, and then
-// nothing is stored.
-fn lesser_in(figures: &mut [i64], at: usize, value: i64)
+// A value in its place where it is beyond the number there. Most values are not, and then nothing is stored.
+fn put_beyond(figures: &mut [i64], at: usize, value: i64, beyond: bool)
     requires { ⌜ at < length (now figures) ⌝ }
-    ensures { λ r. ⌜ now (figures .exit) ≡ pickedIn lesser (now (figures .entry)) at value ⌝ }
+    ensures { λ r. ⌜ now (figures .exit) ≡ choose beyond (set (now (figures .entry)) at value) (now (figures .entry)) ⌝ }
 {
-    if value < figures[at] {
-        figures[at] = value;
-    }
-}
-
-fn greater_in(figures: &mut [i64], at: usize, value: i64)
-    requires { ⌜ at < length (now figures) ⌝ }
-    ensures { λ r. ⌜ now (figures .exit) ≡ pickedIn greater (now (figures .entry)) at value ⌝ }
-{
-    if figures[at] < value {
+    if beyond {
         figures[at] = value;
     }
 }
@@ -35,8 +26,10 @@ fn bounds_in(figures: &mut [i64], at: usize, samples: u64, value: i64)
     ensures { λ r. ⌜ now (figures .exit) ≡ boundsIn (now (figures .entry)) at samples value ⌝ }
 {
     if samples > 0 {
-        lesser_in(figures, at, value);
-        greater_in(figures, at + 1, value);
+        let below = value < figures[at];
+        put_beyond(figures, at, value, below);
+        let above = figures[at + 1] < value;
+        put_beyond(figures, at + 1, value, above);
         return;
     }
     figures[at] = value;

@@ -5,14 +5,29 @@ use borrow.Author.Needs.{needs}
 use Rattle.figures_kept.proofs.bounds_in.Statement.{statement}
 use Rattle.figures_kept.proofs.bounds_in.Tie as tie
 
-lesser-in-requires : tie.Need-lesser-in-requires
-lesser-in-requires c κs = search needs
+mul-below : tie.Need-mul-below
+mul-below c = search needs
 
-add-greater-in : tie.Need-add-greater-in
-add-greater-in c = search needs
+slice-copy-out-below : tie.Need-slice-copy-out-below
+slice-copy-out-below c = search needs
 
-greater-in-requires : tie.Need-greater-in-requires
-greater-in-requires c κs = search needs
+put-beyond-requires : tie.Need-put-beyond-requires
+put-beyond-requires c κs = search needs
+
+add-above : tie.Need-add-above
+add-above c = search needs
+
+mul-above : tie.Need-mul-above
+mul-above c = search needs
+
+slice-copy-out-above : tie.Need-slice-copy-out-above
+slice-copy-out-above c = search needs
+
+add-put-beyond : tie.Need-add-put-beyond
+add-put-beyond c = search needs
+
+put-beyond-requires-2 : tie.Need-put-beyond-requires-2
+put-beyond-requires-2 c κs = search needs
 
 same-length : tie.Need-same-length
 same-length c = search needs
@@ -45,9 +60,14 @@ pub bounds-in-spec : {M : Type 1} → statement M
 bounds-in-spec =
     tie.close
     (tie.spec
-    lesser-in-requires
-    add-greater-in
-    greater-in-requires
+    mul-below
+    slice-copy-out-below
+    put-beyond-requires
+    add-above
+    mul-above
+    slice-copy-out-above
+    add-put-beyond
+    put-beyond-requires-2
     same-length
     returns
     mul-value

@@ -13,7 +13,7 @@ use Rattle.w83782d_claims.proofs.bus.Reached.{refused}
 use Rattle.image.specs.Image.{called}
 use Rattle.w83782d_image.specs.Image.{imageLength, flagBytes, latchesIn, stateIn, putFrom}
 use Rattle.w83782d_image.proofs.Images.{shows-none, shows}
-use Rattle.w83782d_calls.specs.Accesses.{callWrite, callRead}
+use Rattle.w83782d_access.specs.Accesses.{callWrite, callRead}
 
 pub write-short : (im : List ℕ) (i v : ℕ) → (length im ≡ imageLength → ⊥) → called im 8 ≡ callWrite im i v
 unfolding callWrite

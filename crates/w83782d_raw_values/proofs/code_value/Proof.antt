@@ -1,7 +1,7 @@
-use Rattle.w83782d_report.proofs.Raw.{code-is}
+use Rattle.w83782d_raw_values.proofs.Raw.{code-is}
 use borrow.Author.Needs.{needs}
-use Rattle.w83782d_report.proofs.code_value.Statement.{statement}
-use Rattle.w83782d_report.proofs.code_value.Tie as tie
+use Rattle.w83782d_raw_values.proofs.code_value.Statement.{statement}
+use Rattle.w83782d_raw_values.proofs.code_value.Tie as tie
 
 cast-result : tie.Need-cast-result
 cast-result c = search needs

@@ -1,7 +1,7 @@
-use Rattle.w83782d_report.proofs.Raw.{count-is}
+use Rattle.w83782d_raw_values.proofs.Raw.{count-is}
 use borrow.Author.Needs.{needs}
-use Rattle.w83782d_report.proofs.count_value.Statement.{statement}
-use Rattle.w83782d_report.proofs.count_value.Tie as tie
+use Rattle.w83782d_raw_values.proofs.count_value.Statement.{statement}
+use Rattle.w83782d_raw_values.proofs.count_value.Tie as tie
 
 cast-result : tie.Need-cast-result
 cast-result c = search needs

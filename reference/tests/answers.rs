@@ -139,7 +139,7 @@ fn a_channel_not_0_to_6_is_7_with_reading_0() {
 }
 
 #[test]
-fn resistors_are_judged_for_channels_5_and_6_only() {
+fn resistors_are_looked_at_for_channels_5_and_6_only() {
     let bad = [
         (0, 56),
         (232, 0),

@@ -4,7 +4,7 @@
 
 mod common;
 
-use common::{any_sample, any_state, fan_rings, Rng};
+use common::{any_sample, any_speed, any_state, fan_rings, Rng};
 use reference::w83782d::{rewrites, InForce, Monitor};
 use reference::{plan, End, Plan};
 
@@ -51,18 +51,6 @@ fn any_value(rng: &mut Rng, index: u8, in_force: &InForce) -> u8 {
             tops.fold(other & 0x1F, |byte, top| byte | top)
         }
         _ => other,
-    }
-}
-
-/// A speed to plan, spread over all sizes, at times one to be refused.
-fn any_speed(rng: &mut Rng) -> u32 {
-    match rng.below(12) {
-        0 => 0,
-        1 => 1_350_001 + rng.below(1 << 20) as u32,
-        _ => {
-            let shift = rng.below(21);
-            (1 + (((rng.next() >> 32) % 1_350_000) >> shift)) as u32
-        }
     }
 }
 

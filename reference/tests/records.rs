@@ -158,7 +158,7 @@ fn a_bad_temperature_is_3_at_exactly_the_edges() {
 }
 
 #[test]
-fn the_decoder_does_not_judge_index_or_standby() {
+fn the_decoder_looks_at_neither_index_nor_standby() {
     let event = Event::Read { index: 0x00 };
     assert_eq!(decode(&record_of(&event)), Ok(event));
     let event = Event::Sample(CALM);

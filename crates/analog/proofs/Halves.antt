@@ -64,7 +64,8 @@ module _ (z : ℤ) where
   unfolding halfCodeOf
   half-answer = go (outside z)
     where
-      go : (t : Bool) → halfAnswer (choose t OutOfRange (Code (codeOf half9 z / 2) (codeOf half9 z % 2 * 128))) ≡ choose t 3 0
+      go : (t : Bool)
+          → halfAnswer (choose t OutOfRange (Code (codeOf half9 z / 2) (codeOf half9 z % 2 * 128))) ≡ choose t 3 0
       go true = refl
       go false = refl
 

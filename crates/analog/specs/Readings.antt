@@ -59,7 +59,8 @@ millivoltsOf channel c r5 r6 = getD (voltages c r5 r6) channel Refused
 
 -- A-7: a channel above 6, or, on channels 5 and 6 only, what is no resistor
 abbrev pub answerFor : ℕ → ℕ → ℕ → ℕ
-answerFor channel r5 r6 = choose (ltb 6 channel || ltb 4 channel && not (isResistor r5 && isResistor r6)) answers.noChannel 0
+answerFor channel r5 r6 =
+    choose (ltb 6 channel || ltb 4 channel && not (isResistor r5 && isResistor r6)) answers.noChannel 0
 
 -- a reading is refused exactly when the answer table says so
 pub record VoltageAnswers : Type 0 where

@@ -13,7 +13,7 @@ const STEP: u32 = 16;
 
 const REFERENCE: u32 = 3600;
 
-// The +5 and +12 inputs stand behind dividers: a code is this many millivolts, over this.
+// The +5 and +12 inputs are behind dividers: a code is this many millivolts, over this.
 const PLUS_5: u32 = 672;
 
 const PLUS_5_OVER: u32 = 25;
@@ -65,7 +65,8 @@ fn rail(code: u8, r5: u32, r6: u32) -> Reading
     Reading::Millivolts(quotient(STEP * (code as u32) * (r5 + r6), REFERENCE * r5, r6))
 }
 
-// The millivolts of a code on a channel: VCOREA, VINR0, +3.3, +5, +12, -12, -5 from 0. The resistors count for the last two only.
+// The millivolts of a code on a channel: VCOREA, VINR0, +3.3, +5, +12, -12, -5 from 0.
+// The resistors count for the last two only.
 pub fn millivolts(channel: u8, code: u8, r5: u32, r6: u32) -> Reading
     ensures { λ r. ⌜ (r ≡ millivoltsOf channel code r5 r6) × VoltageAnswers ⌝ }
 {

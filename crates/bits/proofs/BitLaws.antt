@@ -15,7 +15,8 @@ use Rattle.bits.specs.declared.Bit.the-variants.{B0, B1, B2, B3, B4, B5,
 use Rattle.bits.proofs.Every.{same-below, same-below2}
 
 -- ---- a choice, by its two cases
-pub choose-ind : {A : Type 0} (P : A → Type 0) (b : Bool) (x y : A) → (b ≡ true → P x) → (b ≡ false → P y) → P (choose b x y)
+pub choose-ind : {A : Type 0} (P : A → Type 0) (b : Bool) (x y : A) → (b ≡ true → P x) → (b ≡ false → P y)
+    → P (choose b x y)
 choose-ind P true x y f g = f refl
 choose-ind P false x y f g = g refl
 
@@ -56,7 +57,8 @@ shifted = same-below2 2 8 (λ d j. d * 2 ^ j % 256) (λ d j. d * 2 ^ j) tt
 
 -- ---- masks, bit by bit
 -- an operation f that keeps bits apart does to each bit what it does to one
-bit-by-bit : (f g : ℕ → ℕ → ℕ) → ((a b k : ℕ) → f a b / 2 ^ k ≡ f (a / 2 ^ k) (b / 2 ^ k)) → ((a b k : ℕ) → f a b % 2 ^ k ≡ f (a % 2 ^ k) (b % 2 ^ k))
+bit-by-bit : (f g : ℕ → ℕ → ℕ) → ((a b k : ℕ) → f a b / 2 ^ k ≡ f (a / 2 ^ k) (b / 2 ^ k))
+    → ((a b k : ℕ) → f a b % 2 ^ k ≡ f (a % 2 ^ k) (b % 2 ^ k))
     → ((x y : ℕ) → x < 2 → y < 2 → f x y ≡ g x y)
     → (a b j : ℕ) → bit (f a b) j ≡ g (bit a j) (bit b j)
 unfolding bit
@@ -119,7 +121,8 @@ from-bits : (n : ℕ) → n < 256
     → n ≡ bit n 0 + 2 * bit n 1 + 4 * bit n 2 + 8 * bit n 3 + 16 * bit n 4 + 32 * bit n 5 + 64 * bit n 6 + 128 * bit n 7
 unfolding bit
 from-bits =
-    same-below 256 (λ n. n) (λ n. bit n 0 + 2 * bit n 1 + 4 * bit n 2 + 8 * bit n 3 + 16 * bit n 4 + 32 * bit n 5 + 64 * bit n 6 + 128 * bit n 7) tt
+    same-below 256 (λ n. n)
+    (λ n. bit n 0 + 2 * bit n 1 + 4 * bit n 2 + 8 * bit n 3 + 16 * bit n 4 + 32 * bit n 5 + 64 * bit n 6 + 128 * bit n 7) tt
 
 pub same-byte : (a b : ℕ) → a < 256 → b < 256 → ((j : ℕ) → j < 8 → bit a j ≡ bit b j) → a ≡ b
 same-byte a b ha hb e =

@@ -64,11 +64,14 @@ pub changes-keep : ChangesKeep
 unfolding changes touches
 changes-keep rs [] k j m hj e = refl
 changes-keep rs (c ∷ cs) k j m hj e =
-    changes-keep (one rs (c .cell) (c .mask) (c .byte) (m .0)) cs k j (m .1) hj (or-right (eqb k (c .cell) && isOn (c .mask) j) (touches cs k j) e)
-    ∙ one-keeps rs (c .cell) (c .mask) (c .byte) (m .0) k j hj (or-left (eqb k (c .cell) && isOn (c .mask) j) (touches cs k j) e)
+    changes-keep (one rs (c .cell) (c .mask) (c .byte) (m .0)) cs k j (m .1) hj
+    (or-right (eqb k (c .cell) && isOn (c .mask) j) (touches cs k j) e)
+    ∙ one-keeps rs (c .cell) (c .mask) (c .byte) (m .0) k j hj
+    (or-left (eqb k (c .cell) && isOn (c .mask) j) (touches cs k j) e)
 
 -- ---- what the functions compute, in the words of the definitions
-pub store-in : (rs : List ℕ) (cell mask byte r : ℕ) → r ≡ mergeOf (getD rs cell 0) mask byte → set rs cell r ≡ changes rs (change cell mask byte ∷ [])
+pub store-in : (rs : List ℕ) (cell mask byte r : ℕ) → r ≡ mergeOf (getD rs cell 0) mask byte
+    → set rs cell r ≡ changes rs (change cell mask byte ∷ [])
 unfolding changes
 store-in rs cell mask byte r e = ap (set rs cell) e
 

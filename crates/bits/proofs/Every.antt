@@ -40,7 +40,8 @@ same-below n f g t k h = eqb→eq (f k) (g k) (every-at (λ x. eqb (f x) (g x)) 
 pub less-below : (n : ℕ) (f g : ℕ → ℕ) → T (every (λ k. ltb (f k) (g k)) n) → (k : ℕ) → k < n → f k < g k
 less-below n f g t k h = ltb→lt (f k) (g k) (every-at (λ x. ltb (f x) (g x)) n t k h)
 
-pub same-below2 : (n m : ℕ) (f g : ℕ → ℕ → ℕ) → T (every (λ a. every (λ b. eqb (f a b) (g a b)) m) n) → (a b : ℕ) → a < n → b < m → f a b ≡ g a b
+pub same-below2 : (n m : ℕ) (f g : ℕ → ℕ → ℕ) → T (every (λ a. every (λ b. eqb (f a b) (g a b)) m) n) → (a b : ℕ)
+    → a < n → b < m → f a b ≡ g a b
 same-below2 n m f g t a b ha hb = eqb→eq (f a b) (g a b) (every-at2 (λ x y. eqb (f x y) (g x y)) n m t a b ha hb)
 
 -- two tests that agree by computing

@@ -25,11 +25,15 @@ each4 f = each (λ a. each (λ b. each (λ c. each (f a b c))))
 
 pub each4-at : (f : Bool → Bool → Bool → Bool → Bool) → T (each4 f) → (a b c d : Bool) → T (f a b c d)
 each4-at f t a b c d =
-    each-at (f a b c) (each-at (λ c. each (f a b c)) (each-at (λ b. each (λ c. each (f a b c))) (each-at (λ a. each (λ b. each (λ c. each (f a b c)))) t a) b) c) d
+    each-at (f a b c)
+    (each-at (λ c. each (f a b c))
+    (each-at (λ b. each (λ c. each (f a b c))) (each-at (λ a. each (λ b. each (λ c. each (f a b c)))) t a) b) c) d
 
 abbrev pub packed : Bool → Bool → Bool → Bool → Bool → Bool → Bool → Bool → ℕ
 packed a b c d e f g h =
-    bitOr (bitOr (bitOr (bitOr (bitOr (bitOr (bitOr (flagOf a) (flagOf b * 2 % 256)) (flagOf c * 4 % 256)) (flagOf d * 8 % 256)) (flagOf e * 16 % 256))
+    bitOr (bitOr (bitOr
+    (bitOr (bitOr (bitOr (bitOr (flagOf a) (flagOf b * 2 % 256)) (flagOf c * 4 % 256)) (flagOf d * 8 % 256))
+    (flagOf e * 16 % 256))
     (flagOf f * 32 % 256)) (flagOf g * 64 % 256)) (flagOf h * 128 % 256)
 
 test : Bool → Bool → Bool → Bool → Bool → Bool → Bool → Bool → Bool
@@ -38,7 +42,8 @@ test a b c d e f g h = eqb (packed a b c d e f g h) (word (a ∷ b ∷ c ∷ d �
 
 pub pack-law : (a b c d e f g h : Bool) → packed a b c d e f g h ≡ word (a ∷ b ∷ c ∷ d ∷ e ∷ f ∷ g ∷ h ∷ [])
 unfolding test
-pack-law a b c d e f g h = eqb→eq _ _ (each4-at (test a b c d) (each4-at (λ a b c d. each4 (test a b c d)) tt a b c d) e f g h)
+pack-law a b c d e f g h =
+    eqb→eq _ _ (each4-at (test a b c d) (each4-at (λ a b c d. each4 (test a b c d)) tt a b c d) e f g h)
 
 flag-lt : (b : Bool) → flagOf b < 2
 flag-lt true = lit< tt

@@ -45,7 +45,8 @@ no-key : (ks : List ℕ) (x : ℕ) → (OneOf ks x → ⊥) → T (isKey ks x) �
 no-key [] x n t = t
 no-key (k ∷ []) x n t = ⊎-elim (λ e. n (eqb→eq x k e)) (λ e. e) (or-either (eqb x k) false t)
 no-key (k ∷ k′ ∷ ks) x n t =
-    ⊎-elim (λ e. n (inl (eqb→eq x k e))) (no-key (k′ ∷ ks) x (λ h. n (inr h))) (or-either (eqb x k) (isKey (k′ ∷ ks) x) t)
+    ⊎-elim (λ e. n (inl (eqb→eq x k e))) (no-key (k′ ∷ ks) x (λ h. n (inr h)))
+    (or-either (eqb x k) (isKey (k′ ∷ ks) x) t)
 
 no-some : (kss : List (List ℕ)) (x : ℕ) → NoKey kss x → T (isSome kss x) → ⊥
 no-some [] x n t = t
@@ -55,7 +56,8 @@ no-some (ks ∷ kss) x n t = ⊎-elim (no-key ks x (n .1)) (no-some kss x (n .0)
 abbrev pub elsewhere : (ℕ → ℕ) → ℕ → List (List ℕ) → ℕ → Bool
 elsewhere f v kss n = every (λ x. isSome kss x || eqb v (f x)) n
 
-pub last-arm : (f : ℕ → ℕ) (v : ℕ) (kss : List (List ℕ)) (n : ℕ) → T (elsewhere f v kss n) → (x : ℕ) → x < n → NoKey kss x → v ≡ f x
+pub last-arm : (f : ℕ → ℕ) (v : ℕ) (kss : List (List ℕ)) (n : ℕ) → T (elsewhere f v kss n) → (x : ℕ) → x < n
+    → NoKey kss x → v ≡ f x
 last-arm f v kss n t x h m =
     ⊎-elim (λ s. absurd (no-some kss x m s)) (eqb→eq v (f x))
     (or-either (isSome kss x) (eqb v (f x)) (every-at (λ x. isSome kss x || eqb v (f x)) n t x h))

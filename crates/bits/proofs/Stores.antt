@@ -1,5 +1,5 @@
--- A list of stores, cell by cell: the last byte stored to a cell, or what it held; cells that no store names; and the same
--- stores to two lists that are alike but in some bits. Assumes nothing.
+-- A list of stores, cell by cell: the last byte stored to a cell, or what it held; cells that no
+-- store names; and the same stores to two lists that are alike but in some bits. Assumes nothing.
 use mathlib.Core.Path.{_≡_, refl, ap, ap₂, sym, subst, _∙_}
 use mathlib.Core.Bool.{Bool, true, false, not, _&&_}
 use mathlib.Core.List.{List, [], _∷_, map}
@@ -22,11 +22,13 @@ abbrev pub lastOf : List Store → ℕ → ℕ → ℕ
 lastOf [] c d = d
 lastOf (w ∷ ws) c d = lastOf ws c (choose (eqb c (w .cell)) (w .byte) d)
 
-set-at : (t : Bool) (rs : List ℕ) (k v c : ℕ) → eqb c k ≡ t → c < length rs → getD (set rs k v) c 0 ≡ choose t v (getD rs c 0)
+set-at : (t : Bool) (rs : List ℕ) (k v c : ℕ) → eqb c k ≡ t → c < length rs
+    → getD (set rs k v) c 0 ≡ choose t v (getD rs c 0)
 set-at true rs k v c e h = subst (λ (i : ℕ). getD (set rs i v) c 0 ≡ v) (eqb-true c k e) (getD-set-same rs c v 0 h)
 set-at false rs k v c e h = getD-set-other rs k c v 0 (eqb-false c k e)
 
-pub puts-at : (ws : List Store) (rs : List ℕ) (c : ℕ) → c < length rs → getD (puts rs ws) c 0 ≡ lastOf ws c (getD rs c 0)
+pub puts-at : (ws : List Store) (rs : List ℕ) (c : ℕ) → c < length rs
+    → getD (puts rs ws) c 0 ≡ lastOf ws c (getD rs c 0)
 puts-at [] rs c h = refl
 puts-at (w ∷ ws) rs c h =
     puts-at ws (set rs (w .cell) (w .byte)) c (rw length-set h)
@@ -48,11 +50,13 @@ off : (t more : Bool) → choose t true more ≡ false → (t ≡ false) × (mor
 off true more e = let z : true ≡ false = e in (cc, cc)
 off false more e = (refl, e)
 
-pub puts-other : (ws : List Store) (rs : List ℕ) (c : ℕ) → isOf c (cellsOf ws) ≡ false → getD (puts rs ws) c 0 ≡ getD rs c 0
+pub puts-other : (ws : List Store) (rs : List ℕ) (c : ℕ) → isOf c (cellsOf ws) ≡ false
+    → getD (puts rs ws) c 0 ≡ getD rs c 0
 puts-other [] rs c e = refl
 puts-other (w ∷ ws) rs c e =
     let o = off (eqb c (w .cell)) (isOf c (cellsOf ws)) e in
-    puts-other ws (set rs (w .cell) (w .byte)) c (o .1) ∙ getD-set-other rs (w .cell) c (w .byte) 0 (eqb-false c (w .cell) (o .0))
+    puts-other ws (set rs (w .cell) (w .byte)) c (o .1)
+    ∙ getD-set-other rs (w .cell) c (w .byte) 0 (eqb-false c (w .cell) (o .0))
 
 -- ---- cells of another list
 abbrev pub all-of : List ℕ → List ℕ → Bool
@@ -93,7 +97,8 @@ module _ (n : ℕ) (free : ℕ → ℕ) where
     pub bits : (c j : ℕ) → j < 8 → isRuled c j ≡ true → bit (getD rs c 0) j ≡ bit (getD ts c 0) j
 
 -- the same stores to both, of a whole cell or of a bit
-module _ (f : ℕ → ℕ) (rs ts : List ℕ) (k v c : ℕ) (l : length rs ≡ length ts) (e : f (getD rs c 0) ≡ f (getD ts c 0)) where
+module _ (f : ℕ → ℕ) (rs ts : List ℕ) (k v c : ℕ) (l : length rs ≡ length ts)
+    (e : f (getD rs c 0) ≡ f (getD ts c 0)) where
   set-same : f (getD (set rs k v) c 0) ≡ f (getD (set ts k v) c 0)
   set-same = go (ℕ-discrete c k) (decLt k (length rs))
     where

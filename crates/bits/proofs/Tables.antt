@@ -29,7 +29,8 @@ pub over-none : (a o : List ℕ) → over a o 0 ≡ o
 unfolding over
 over-none a o = refl
 
-pub over-next : (a o : List ℕ) (i : ℕ) → i < length a → i < length o → set (over a o i) i (getD a i 0) ≡ over a o (suc i)
+pub over-next : (a o : List ℕ) (i : ℕ) → i < length a → i < length o
+    → set (over a o i) i (getD a i 0) ≡ over a o (suc i)
 unfolding over
 over-next [] o i h k = absurd (omega arith)
 over-next (x ∷ a) [] i h k = absurd (omega arith)

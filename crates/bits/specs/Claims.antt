@@ -8,7 +8,9 @@ use Rattle.bits.specs.Bits.{bit, isOn, choose, mergeOf, Change, changes,
 
 -- a merge takes the mask's bits from the byte and keeps every other bit
 abbrev pub MergeTakes : Type 0
-MergeTakes = (old mask byte j : ℕ) → mask < 256 → j < 8 → bit (mergeOf old mask byte) j ≡ choose (isOn mask j) (bit byte j) (bit old j)
+MergeTakes =
+    (old mask byte j : ℕ) → mask < 256 → j < 8
+    → bit (mergeOf old mask byte) j ≡ choose (isOn mask j) (bit byte j) (bit old j)
 
 -- each mask of the changes is a byte
 abbrev pub Masks : List Change → Type 0

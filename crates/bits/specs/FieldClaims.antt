@@ -20,4 +20,5 @@ GatherGivesBack = (rs : List ℕ) (ps : List Place) (v : ℕ) → distinct ps �
 
 -- replacing one field leaves another that has no place in common with it
 abbrev pub OtherStays : Type 0
-OtherStays = (rs : List ℕ) (ps qs : List Place) (v : ℕ) → apart ps qs ≡ true → gatherOf (replaceOf rs ps v) qs ≡ gatherOf rs qs
+OtherStays =
+    (rs : List ℕ) (ps qs : List Place) (v : ℕ) → apart ps qs ≡ true → gatherOf (replaceOf rs ps v) qs ≡ gatherOf rs qs

@@ -47,7 +47,8 @@ pub fn gather(s: &[u8], f: Field) -> u8
 
 // The lowest bit of a number, put at a place.
 fn put_bit(s: &mut [u8], p: Place, digit: u8)
-    ensures { λ r. ⌜ now (s .exit) ≡ changes (now (s .entry)) (change (p .cell) (2 ^ numberOf (p .bit)) (digit % 2 * 2 ^ numberOf (p .bit)) ∷ []) ⌝ }
+    ensures { λ r. ⌜ now (s .exit) ≡ changes (now (s .entry))
+        (change (p .cell) (2 ^ numberOf (p .bit)) (digit % 2 * 2 ^ numberOf (p .bit)) ∷ []) ⌝ }
 {
     let cell = p.cell;
     let b = p.bit;

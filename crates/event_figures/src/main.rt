@@ -7,7 +7,7 @@ use w83782d_record::Decoded;
 use w83782d_record::Event;
 use w83782d_record::Kind;
 
-// A sample that no record can hold: it stands beside a write and is not looked at.
+// A sample that no record can hold: it is kept beside a write and is not looked at.
 fn unwritable() -> Sample {
     Sample {
         codes: [1, 2, 3, 4, 5, 6, 7],

@@ -14,7 +14,8 @@ use Rattle.fan.specs.Count.{exponentOf, fromBits}
 use Rattle.fan.specs.Divisors.{divisorAt, withDivisor, Fields}
 use Rattle.fan.proofs.Divisors.{exponent-lt, from-exponent}
 
-gathered : (rs : List ℕ) (ps : List Place) (d : Divisor) → length ps ≡ 3 → distinct ps ≡ true → inside (length rs) ps ≡ true
+gathered : (rs : List ℕ) (ps : List Place) (d : Divisor) → length ps ≡ 3 → distinct ps ≡ true
+    → inside (length rs) ps ≡ true
     → gatherOf (replaceOf rs ps (exponentOf d)) ps ≡ exponentOf d
 gathered rs ps d e s i =
     gather-gives-back rs ps (exponentOf d) s i ∙ ap (λ (n : ℕ). exponentOf d % 2 ^ n) e ∙ mod-eq-of-lt (exponent-lt d)
@@ -29,10 +30,12 @@ fields =
     }
 
 -- the functions, by what they call
-pub gathered-at : (rs : List ℕ) (ps : List Place) (n : ℕ) (d : Divisor) → n ≡ gatherOf rs ps → (d ≡ fromBits n) × (exponentOf d ≡ n % 8) → d ≡ divisorAt rs ps
+pub gathered-at : (rs : List ℕ) (ps : List Place) (n : ℕ) (d : Divisor) → n ≡ gatherOf rs ps
+    → (d ≡ fromBits n) × (exponentOf d ≡ n % 8) → d ≡ divisorAt rs ps
 unfolding divisorAt
 gathered-at rs ps n d e f = f .0 ∙ ap fromBits e
 
-pub put-at : (rs ts : List ℕ) (ps : List Place) (n : ℕ) (d : Divisor) → n ≡ exponentOf d → ts ≡ replaceOf rs ps n → ts ≡ withDivisor rs ps d
+pub put-at : (rs ts : List ℕ) (ps : List Place) (n : ℕ) (d : Divisor) → n ≡ exponentOf d → ts ≡ replaceOf rs ps n
+    → ts ≡ withDivisor rs ps d
 unfolding withDivisor
 put-at rs ts ps n d e f = f ∙ ap (replaceOf rs ps) e

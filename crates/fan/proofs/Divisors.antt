@@ -44,7 +44,9 @@ exponent-from-bits = same-below 8 (λ k. exponentOf (fromBits k)) (λ k. k) tt
 
 pub exponent-of-bits : (n : ℕ) → exponentOf (fromBits n) ≡ n % 8
 unfolding fromBits
-exponent-of-bits n = ap (λ (k : ℕ). exponentOf (getD divisors k By1)) (sym (mod-mod n 8)) ∙ exponent-from-bits (n % 8) (mod-lt n (lit< tt))
+exponent-of-bits n =
+    ap (λ (k : ℕ). exponentOf (getD divisors k By1)) (sym (mod-mod n 8))
+    ∙ exponent-from-bits (n % 8) (mod-lt n (lit< tt))
 
 -- what `from_bits` promises of the divisor that it picks
 pub bits-of : (n : ℕ) {d : Divisor} → d ≡ fromBits n → (d ≡ fromBits n) × (exponentOf d ≡ n % 8)

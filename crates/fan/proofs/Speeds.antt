@@ -17,6 +17,7 @@ module _ (count d : ℕ) where
   unfolding countSpeed
   all-counted n e = simp (ne-eqb _ _ n, eq-eqb _ _ e)
 
-  pub counted : (count ≡ 0 → ⊥) → (count ≡ 255 → ⊥) → (r v : ℕ) → v ≡ d → r ≡ nearest perMinute (count * v) → Rpm r ≡ countSpeed count d
+  pub counted : (count ≡ 0 → ⊥) → (count ≡ 255 → ⊥) → (r v : ℕ) → v ≡ d → r ≡ nearest perMinute (count * v)
+      → Rpm r ≡ countSpeed count d
   unfolding countSpeed
   counted n m r v e q = simp (ne-eqb _ _ n, ne-eqb _ _ m) (ap Rpm (q ∙ ap (λ (x : ℕ). nearest perMinute (count * x)) e))

@@ -21,10 +21,12 @@ withDivisor rs ps d = replaceOf rs ps (exponentOf d)
 -- what holds of every divisor field, over where its bits lie
 pub record Fields : Type 0 where
   -- the divisor that was put is the divisor that is gathered
-  pub given : (rs : List ℕ) (ps : List Place) (d : Divisor) → length ps ≡ 3 → distinct ps ≡ true → inside (length rs) ps ≡ true
+  pub given : (rs : List ℕ) (ps : List Place) (d : Divisor) → length ps ≡ 3 → distinct ps ≡ true
+      → inside (length rs) ps ≡ true
       → divisorAt (withDivisor rs ps d) ps ≡ d
   -- no bit of any cell changes but the field's
   pub kept : (rs : List ℕ) (ps : List Place) (d : Divisor) (k j : ℕ) → j < 8 → isIn ps k j ≡ false
       → bit (getD (withDivisor rs ps d) k 0) j ≡ bit (getD rs k 0) j
   -- so another fan's divisor stays
-  pub others : (rs : List ℕ) (ps qs : List Place) (d : Divisor) → apart ps qs ≡ true → divisorAt (withDivisor rs ps d) qs ≡ divisorAt rs qs
+  pub others : (rs : List ℕ) (ps qs : List Place) (d : Divisor) → apart ps qs ≡ true
+      → divisorAt (withDivisor rs ps d) qs ≡ divisorAt rs qs

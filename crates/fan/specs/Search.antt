@@ -1,4 +1,5 @@
--- The plan, computed. `Plan` says what a plan is and that there is one only; this is how it is found, so that figures compute.
+-- The plan, computed. `Plan` says what a plan is and that there is one only; this is how
+-- it is found, so that figures compute.
 use Prim.Native.Nat.{ℕ, zero, suc, _-_, _*_, _/_, min}
 use lib.Dec.{ltb}
 use Rattle.bits.specs.Bits.{choose}

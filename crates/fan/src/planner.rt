@@ -1,4 +1,5 @@
-// The plan of a fan alarm: the divisor and limit whose alarm comes nearest to the speed asked for and misses no slower one.
+// The plan of a fan alarm: the divisor and limit whose alarm comes nearest to the speed
+// asked for and misses no slower one.
 ghost use mathlib.Core.Path.{_≡_};
 ghost use Rattle.fan.specs.Count.{valueOf};
 ghost use Rattle.fan.specs.Plan.{ringsFrom, IsPlanned, Plans};

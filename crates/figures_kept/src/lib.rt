@@ -13,7 +13,8 @@ use numbers::wrapping::wrapping_add;
 // A value in its place where it is beyond the number there. Most values are not, and then nothing is stored.
 fn put_beyond(figures: &mut [i64], at: usize, value: i64, beyond: bool)
     requires { ⌜ at < length (now figures) ⌝ }
-    ensures { λ r. ⌜ now (figures .exit) ≡ choose beyond (set (now (figures .entry)) at value) (now (figures .entry)) ⌝ }
+    ensures { λ r. ⌜ now (figures .exit)
+        ≡ choose beyond (set (now (figures .entry)) at value) (now (figures .entry)) ⌝ }
 {
     if beyond {
         figures[at] = value;
@@ -57,8 +58,8 @@ fn row_in(figures: &mut [i64], samples: u64, values: &[i64])
     }
 }
 
-// One value more of each reading, by how many samples there were before. The figures follow one another in a slice, three
-// numbers each: least, greatest, sum. Where values or figures run out, the rest stays.
+// One value more of each reading, by how many samples there were before. The figures follow one another
+// in a slice, three numbers each: least, greatest, sum. Where values or figures run out, the rest stays.
 pub fn figures_in(figures: &mut [i64], samples: u64, values: &[i64])
     ensures row { λ r. ⌜ now (figures .exit) ≡ figuresAfter samples (now (figures .entry)) (now (values .entry)) ⌝ }
     ensures claims { λ r. ⌜ RunningFigures × RowFigures ⌝ }

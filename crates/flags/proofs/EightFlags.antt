@@ -18,7 +18,9 @@ up b n = flagOf b * n % 18446744073709551616
 
 abbrev together : Bool → Bool → Bool → Bool → Bool → Bool → Bool → Bool → ℕ
 together a b c d e f g h =
-    bitOr (bitOr (bitOr (bitOr (bitOr (bitOr (bitOr (flagOf a) (up b 0x100)) (up c 0x1_0000)) (up d 0x100_0000)) (up e 0x1_0000_0000)) (up f 0x100_0000_0000))
+    bitOr (bitOr (bitOr
+    (bitOr (bitOr (bitOr (bitOr (flagOf a) (up b 0x100)) (up c 0x1_0000)) (up d 0x100_0000)) (up e 0x1_0000_0000))
+    (up f 0x100_0000_0000))
     (up g 0x1_0000_0000_0000)) (up h 0x100_0000_0000_0000)
 
 test : Bool → Bool → Bool → Bool → Bool → Bool → Bool → Bool → Bool
@@ -26,4 +28,5 @@ test a b c d e f g h = eqb (together a b c d e f g h) (joined (flags a b c d e f
 
 pub join-law : (a b c d e f g h : Bool) → together a b c d e f g h ≡ joined (flags a b c d e f g h)
 unfolding test
-join-law a b c d e f g h = eqb→eq _ _ (each4-at (test a b c d) (each4-at (λ a b c d. each4 (test a b c d)) tt a b c d) e f g h)
+join-law a b c d e f g h =
+    eqb→eq _ _ (each4-at (test a b c d) (each4-at (λ a b c d. each4 (test a b c d)) tt a b c d) e f g h)

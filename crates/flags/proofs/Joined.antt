@@ -1,5 +1,5 @@
--- Bytes joined into one number: masks and sums go byte by byte, so that a step on the number is that step on each byte, and the
--- bytes come back. Over any number of bytes. Assumes nothing.
+-- Bytes joined into one number: masks and sums go byte by byte, so that a step on the number is
+-- that step on each byte, and the bytes come back. Over any number of bytes. Assumes nothing.
 use mathlib.Core.Path.{_≡_, refl, ap, ap₂, sym, _∙_}
 use mathlib.Core.Bool.{Bool, true, false, not}
 use mathlib.Core.List.{List, [], _∷_}
@@ -37,19 +37,22 @@ bytes-joined (b ∷ bs) h =
 
 -- ---- a step on the number is that step on each byte
 module _ (f : ℕ → ℕ) (m : ℕ) (fits : (b : ℕ) → b < 256 → f b < 256) where
-  and-each : m < 256 → (bs : List ℕ) → AreBytes bs → bitAnd (joined (eachByte f bs)) (joined (eachByte (λ b. m) bs)) ≡ joined (eachByte (λ b. bitAnd (f b) m) bs)
+  and-each : m < 256 → (bs : List ℕ) → AreBytes bs
+      → bitAnd (joined (eachByte f bs)) (joined (eachByte (λ b. m) bs)) ≡ joined (eachByte (λ b. bitAnd (f b) m) bs)
   and-each k [] h = refl
   and-each k (b ∷ bs) h =
       and-block 8 (joined (eachByte f bs)) (joined (eachByte (λ b. m) bs)) (f b) m (fits b (h .0)) k
       ∙ ap (λ (x : ℕ). x * 256 + bitAnd (f b) m) (and-each k bs (h .1))
 
-  or-each : (bs : List ℕ) → AreBytes bs → bitOr (joined (eachByte f bs)) (joined (eachByte (λ b. b) bs)) ≡ joined (eachByte (λ b. bitOr (f b) b) bs)
+  or-each : (bs : List ℕ) → AreBytes bs
+      → bitOr (joined (eachByte f bs)) (joined (eachByte (λ b. b) bs)) ≡ joined (eachByte (λ b. bitOr (f b) b) bs)
   or-each [] h = refl
   or-each (b ∷ bs) h =
       or-block 8 (joined (eachByte f bs)) (joined (eachByte (λ b. b) bs)) (f b) b (fits b (h .0)) (h .0)
       ∙ ap (λ (x : ℕ). x * 256 + bitOr (f b) b) (or-each bs (h .1))
 
-  add-each : (bs : List ℕ) → joined (eachByte f bs) + joined (eachByte (λ b. m) bs) ≡ joined (eachByte (λ b. f b + m) bs)
+  add-each : (bs : List ℕ)
+      → joined (eachByte f bs) + joined (eachByte (λ b. m) bs) ≡ joined (eachByte (λ b. f b + m) bs)
   add-each [] = refl
   add-each (b ∷ bs) = omega (arith, add-each bs)
 
@@ -57,7 +60,8 @@ module _ (f : ℕ → ℕ) (m : ℕ) (fits : (b : ℕ) → b < 256 → f b < 256
   times-each [] = refl
   times-each (b ∷ bs) = omega (arith, times-each bs)
 
-each-same : (f g : ℕ → ℕ) → ((b : ℕ) → b < 256 → f b ≡ g b) → (bs : List ℕ) → AreBytes bs → eachByte f bs ≡ eachByte g bs
+each-same : (f g : ℕ → ℕ) → ((b : ℕ) → b < 256 → f b ≡ g b) → (bs : List ℕ) → AreBytes bs
+    → eachByte f bs ≡ eachByte g bs
 each-same f g e [] h = refl
 each-same f g e (b ∷ bs) h = ap₂ (λ (x : ℕ) (y : List ℕ). x ∷ y) (e b (h .0)) (each-same f g e bs (h .1))
 
@@ -92,15 +96,20 @@ top-flag : (b : ℕ) → b < 256 → bitAnd (top b) 128 ≡ normal b * 128
 top-flag = same-below 256 (λ b. bitAnd (top b) 128) (λ b. normal b * 128) tt
 
 module _ (bs : List ℕ) (h : AreBytes bs) where
-  spread : bitAnd (bitOr (bitAnd (joined bs) (joined (eachByte (λ b. 127) bs)) + joined (eachByte (λ b. 127) bs)) (joined bs)) (joined (eachByte (λ b. 128) bs))
+  spread : bitAnd
+      (bitOr (bitAnd (joined bs) (joined (eachByte (λ b. 127) bs)) + joined (eachByte (λ b. 127) bs)) (joined bs))
+      (joined (eachByte (λ b. 128) bs))
       ≡ joined (eachByte normal bs) * 128
   spread =
       let own : joined bs ≡ joined (eachByte (λ b. b) bs) = ap joined (sym (each-none bs)) in
       let masked : bitAnd (joined bs) (joined (eachByte (λ b. 127) bs)) ≡ joined (eachByte low bs) =
-      ap (λ (x : ℕ). bitAnd x (joined (eachByte (λ b. 127) bs))) own ∙ and-each (λ b. b) 127 (λ b k. k) (lit< tt) bs h in
-      let added : bitAnd (joined bs) (joined (eachByte (λ b. 127) bs)) + joined (eachByte (λ b. 127) bs) ≡ joined (eachByte carried bs) =
+      ap (λ (x : ℕ). bitAnd x (joined (eachByte (λ b. 127) bs))) own
+      ∙ and-each (λ b. b) 127 (λ b k. k) (lit< tt) bs h in
+      let added : bitAnd (joined bs) (joined (eachByte (λ b. 127) bs)) + joined (eachByte (λ b. 127) bs)
+      ≡ joined (eachByte carried bs) =
       ap (λ (x : ℕ). x + joined (eachByte (λ b. 127) bs)) masked ∙ add-each low 127 low-lt bs in
-      let both : bitOr (bitAnd (joined bs) (joined (eachByte (λ b. 127) bs)) + joined (eachByte (λ b. 127) bs)) (joined bs) ≡ joined (eachByte top bs) =
+      let both : bitOr (bitAnd (joined bs) (joined (eachByte (λ b. 127) bs)) + joined (eachByte (λ b. 127) bs))
+      (joined bs) ≡ joined (eachByte top bs) =
       ap₂ bitOr added own ∙ or-each carried 0 carried-lt bs h in
       ap (λ (x : ℕ). bitAnd x (joined (eachByte (λ b. 128) bs))) both
       ∙ and-each top 128 top-lt (lit< tt) bs h
@@ -115,8 +124,10 @@ pub normalised-flags : (w : ℕ) → w < 18446744073709551616
 unfolding flagsOf
 normalised-flags w h =
     let e : joined (bytesOf 8 w) ≡ w = joined-bytes 8 w h in
-    let s : bitAnd (bitOr (bitAnd w 0x7f7f_7f7f_7f7f_7f7f + 0x7f7f_7f7f_7f7f_7f7f) w) 0x8080_8080_8080_8080 ≡ joined (eachByte normal (bytesOf 8 w)) * 128 =
-    ap (λ (x : ℕ). bitAnd (bitOr (bitAnd x 0x7f7f_7f7f_7f7f_7f7f + 0x7f7f_7f7f_7f7f_7f7f) x) 0x8080_8080_8080_8080) (sym e) ∙ spread (bytesOf 8 w) (bytes-lt 8 w) in
+    let s : bitAnd (bitOr (bitAnd w 0x7f7f_7f7f_7f7f_7f7f + 0x7f7f_7f7f_7f7f_7f7f) w) 0x8080_8080_8080_8080
+    ≡ joined (eachByte normal (bytesOf 8 w)) * 128 =
+    ap (λ (x : ℕ). bitAnd (bitOr (bitAnd x 0x7f7f_7f7f_7f7f_7f7f + 0x7f7f_7f7f_7f7f_7f7f) x) 0x8080_8080_8080_8080)
+    (sym e) ∙ spread (bytesOf 8 w) (bytes-lt 8 w) in
     omega (arith, s)
 
 -- ---- the lowest bit of byte k
@@ -153,7 +164,8 @@ normal-bytes (b ∷ bs) = (flag-small (isSet b), normal-bytes bs)
 
 pub flags-joined : (bs : List ℕ) → AreBytes bs → length bs ≡ 8 → flagsOf (joined bs) ≡ joined (eachByte normal bs)
 unfolding flagsOf
-flags-joined bs h n = ap (λ (x : List ℕ). joined (eachByte normal x)) (ap (λ (k : ℕ). bytesOf k (joined bs)) (sym n) ∙ bytes-joined bs h)
+flags-joined bs h n =
+    ap (λ (x : List ℕ). joined (eachByte normal x)) (ap (λ (k : ℕ). bytesOf k (joined bs)) (sym n) ∙ bytes-joined bs h)
 
 flag-bit : (t : Bool) → eqb (bit (flagOf t) 0) 1 ≡ t
 unfolding bit

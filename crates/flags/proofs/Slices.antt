@@ -7,17 +7,21 @@ use native.Mathlib.Omega.{arith}
 use borrow.Author.Tests.{le-leb, lt-leb}
 use lib.ListN.{length, getD, set}
 use lib.Seq.{sets, getD-set-other}
-use Rattle.flags.specs.Bytes.{joined, bytesOf, AreBytes, eachByte, normal, flagsOf, fourFrom, eightFrom, flagsAt, putEight}
+use Rattle.flags.specs.Bytes.{joined, bytesOf, AreBytes, eachByte, normal}
+use Rattle.flags.specs.Bytes.{flagsOf, fourFrom, eightFrom, flagsAt, putEight}
 use Rattle.bits.specs.Map.{tabulate}
 use Rattle.flags.proofs.Joined.{flags-joined}
 
 -- ---- four bytes
-pub four-is : (s : List ℕ) (at a b c d : ℕ) → a ≡ getD s at 0 → b ≡ getD s (at + 1) 0 → c ≡ getD s (at + 2) 0 → d ≡ getD s (at + 3) 0
-    → a < 256 → b < 256 → c < 256 → d < 256 → (((d * 256 + c) * 256 + b) * 256 + a ≡ joined (fourFrom s at)) × AreBytes (fourFrom s at)
+pub four-is : (s : List ℕ) (at a b c d : ℕ) → a ≡ getD s at 0 → b ≡ getD s (at + 1) 0 → c ≡ getD s (at + 2) 0
+    → d ≡ getD s (at + 3) 0
+    → a < 256 → b < 256 → c < 256 → d < 256
+    → (((d * 256 + c) * 256 + b) * 256 + a ≡ joined (fourFrom s at)) × AreBytes (fourFrom s at)
 four-is s at a b c d ea eb ec ed ha hb hc hd =
     (rw (← ea, ← eb, ← ec, ← ed) (omega arith), rw (← ea, ← eb, ← ec, ← ed) (ha, (hb, (hc, (hd, tt)))))
 
-pub put-four : (im s t u v : List ℕ) (at w : ℕ) → s ≡ set im at (w % 256) → t ≡ set s (at + 1) (w / 256 % 256) → u ≡ set t (at + 2) (w / 256 / 256 % 256)
+pub put-four : (im s t u v : List ℕ) (at w : ℕ) → s ≡ set im at (w % 256) → t ≡ set s (at + 1) (w / 256 % 256)
+    → u ≡ set t (at + 2) (w / 256 / 256 % 256)
     → v ≡ set u (at + 3) (w / 256 / 256 / 256 % 256) → v ≡ sets im at (bytesOf 4 w)
 put-four im s t u v at w es et eu ev = ev ∙ rw (eu, et, es, add-one, add-two, add-three)
 
@@ -26,8 +30,10 @@ pub flags-none : (s : List ℕ) (at : ℕ) → length s < at + 8 → 0 ≡ flags
 unfolding flagsAt
 flags-none s at h = simp (lt-leb (at + 8) (length s) h)
 
-pub flags-are : (s : List ℕ) (at low high r : ℕ) → 8 ≤ length s → at ≤ length s - 8 → (low ≡ joined (fourFrom s at)) × AreBytes (fourFrom s at)
-    → (high ≡ joined (fourFrom s (at + 4))) × AreBytes (fourFrom s (at + 4)) → r ≡ flagsOf (high * 0x1_0000_0000 + low) → r ≡ flagsAt s at
+pub flags-are : (s : List ℕ) (at low high r : ℕ) → 8 ≤ length s → at ≤ length s - 8
+    → (low ≡ joined (fourFrom s at)) × AreBytes (fourFrom s at)
+    → (high ≡ joined (fourFrom s (at + 4))) × AreBytes (fourFrom s (at + 4)) → r ≡ flagsOf (high * 0x1_0000_0000 + low)
+    → r ≡ flagsAt s at
 unfolding flagsAt
 flags-are s at low high r n k l h e =
     let w : high * 0x1_0000_0000 + low ≡ joined (eightFrom s at) = omega (arith, l .0, h .0) in
@@ -37,7 +43,8 @@ flags-are s at low high r n k l h e =
 low-byte : (w q r : ℕ) → w ≡ q * 256 + r → r % 256 ≡ w % 256
 low-byte w q r e = omega arith
 
--- byte by byte from below: what is left of the number after each byte is its upper half, moved down, and what is left of the lower
+-- byte by byte from below: what is left of the number after each byte is its upper half,
+-- moved down, and what is left of the lower
 bytes-cut : (w q r : ℕ) → q ≡ w / 0x1_0000_0000 → r ≡ w % 0x1_0000_0000 → bytesOf 4 r ++ bytesOf 4 q ≡ bytesOf 8 w
 bytes-cut w q r eq er =
     let w0 : w ≡ q * 0x1_0000_0000 + r = omega arith in
@@ -48,29 +55,37 @@ bytes-cut w q r eq er =
     let w4 : q ≡ w / 256 / 256 / 256 / 256 = omega (arith, w3, small) in
     let a : r % 256 ≡ w % 256 = low-byte w (q * 0x100_0000) r (omega (arith, w0)) in
     let b : r / 256 % 256 ≡ w / 256 % 256 = low-byte (w / 256) (q * 0x1_0000) (r / 256) (omega (arith, w1)) in
-    let c : r / 256 / 256 % 256 ≡ w / 256 / 256 % 256 = low-byte (w / 256 / 256) (q * 256) (r / 256 / 256) (omega (arith, w2)) in
-    let d : r / 256 / 256 / 256 % 256 ≡ w / 256 / 256 / 256 % 256 = low-byte (w / 256 / 256 / 256) q (r / 256 / 256 / 256) w3 in
+    let c : r / 256 / 256 % 256 ≡ w / 256 / 256 % 256 =
+    low-byte (w / 256 / 256) (q * 256) (r / 256 / 256) (omega (arith, w2)) in
+    let d : r / 256 / 256 / 256 % 256 ≡ w / 256 / 256 / 256 % 256 =
+    low-byte (w / 256 / 256 / 256) q (r / 256 / 256 / 256) w3 in
     rw (a, b, c, d, w4)
 
 pub put-eight-none : (s : List ℕ) (at w : ℕ) → length s < at + 8 → s ≡ putEight s at w
 unfolding putEight
 put-eight-none s at w h = simp (lt-leb (at + 8) (length s) h)
 
-pub put-eight-all : (s t u : List ℕ) (at w : ℕ) → 8 ≤ length s → at ≤ length s - 8 → t ≡ sets s at (bytesOf 4 (w % 0x1_0000_0000)) → u ≡ sets t (at + 4) (bytesOf 4 (w / 0x1_0000_0000))
+pub put-eight-all : (s t u : List ℕ) (at w : ℕ) → 8 ≤ length s → at ≤ length s - 8
+    → t ≡ sets s at (bytesOf 4 (w % 0x1_0000_0000)) → u ≡ sets t (at + 4) (bytesOf 4 (w / 0x1_0000_0000))
     → u ≡ putEight s at w
 unfolding putEight
 put-eight-all s t u at w n k et eu =
     let next : at + 4 ≡ suc (suc (suc (suc at))) = omega arith in
-    let both : sets (sets s at (bytesOf 4 (w % 0x1_0000_0000))) (at + 4) (bytesOf 4 (w / 0x1_0000_0000)) ≡ sets s at (bytesOf 4 (w % 0x1_0000_0000) ++ bytesOf 4 (w / 0x1_0000_0000)) =
+    let both : sets (sets s at (bytesOf 4 (w % 0x1_0000_0000))) (at + 4) (bytesOf 4 (w / 0x1_0000_0000))
+    ≡ sets s at (bytesOf 4 (w % 0x1_0000_0000) ++ bytesOf 4 (w / 0x1_0000_0000)) =
     ap (λ (n : ℕ). sets (sets s at (bytesOf 4 (w % 0x1_0000_0000))) n (bytesOf 4 (w / 0x1_0000_0000))) next in
     simp (le-leb (at + 8) (length s) (omega arith))
-    (eu ∙ ap (λ (x : List ℕ). sets x (at + 4) (bytesOf 4 (w / 0x1_0000_0000))) et ∙ both ∙ ap (sets s at) (bytes-cut w _ _ refl refl))
+    (eu ∙ ap (λ (x : List ℕ). sets x (at + 4) (bytesOf 4 (w / 0x1_0000_0000))) et ∙ both
+    ∙ ap (sets s at) (bytes-cut w _ _ refl refl))
 
 -- ---- bytes stored one after another from a place on, each a function of its place
 module _ (f : ℕ → ℕ) where
-  more : (k i : ℕ) (im : List ℕ) → set (sets im i (tabulate k i f)) (i + k) (f (i + k)) ≡ sets im i (tabulate (suc k) i f)
+  more : (k i : ℕ) (im : List ℕ)
+      → set (sets im i (tabulate k i f)) (i + k) (f (i + k)) ≡ sets im i (tabulate (suc k) i f)
   more zero i im = ap (λ (j : ℕ). set im j (f j)) (omega arith)
-  more (suc k) i im = ap (λ (j : ℕ). set (sets (set im i (f i)) (suc i) (tabulate k (suc i) f)) j (f j)) (omega arith) ∙ more k (suc i) (set im i (f i))
+  more (suc k) i im =
+      ap (λ (j : ℕ). set (sets (set im i (f i)) (suc i) (tabulate k (suc i) f)) j (f j)) (omega arith)
+      ∙ more k (suc i) (set im i (f i))
 
   -- what comes next is not stored yet
   untouched : (k i : ℕ) (im : List ℕ) → getD (sets im i (tabulate k i f)) (i + k) 0 ≡ getD im (i + k) 0

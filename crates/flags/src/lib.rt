@@ -1,5 +1,5 @@
-// Flags kept as bytes, eight at a time as one number, the first lowest: a byte of 0 is a flag that is off, any other one that is
-// on; written as 0 or 1. As one number they cost a load, a few steps and a store.
+// Flags kept as bytes, eight at a time as one number, the first lowest: a byte of 0 is a flag that is off,
+// any other one that is on; written as 0 or 1. As one number they cost a load, a few steps and a store.
 ghost use mathlib.Core.Path.{_≡_};
 ghost use mathlib.Core.List.{[], _∷_};
 ghost use Prim.Native.Nat.{_+_, _*_, _≤_};
@@ -23,8 +23,8 @@ pub fn four(a: u8, b: u8, c: u8, d: u8) -> u32
     (((d as u32) * 256 + c as u32) * 256 + b as u32) * 256 + a as u32
 }
 
-// Each of eight bytes as its flag is written. Adding 127 to the seven low bits carries into the top one unless all are 0, and
-// never beyond the byte.
+// Each of eight bytes as its flag is written. Adding 127 to the seven low bits carries
+// into the top one unless all are 0, and never beyond the byte.
 pub fn normalised(bytes: u64) -> u64
     ensures { λ r. ⌜ r ≡ flagsOf bytes ⌝ }
 {
@@ -41,7 +41,8 @@ pub fn is_flag(flags: u64, n: Bit) -> bool
 
 // Eight flags as they are written.
 pub fn join(a: bool, b: bool, c: bool, d: bool, e: bool, f: bool, g: bool, h: bool) -> u64
-    ensures { λ r. ⌜ r ≡ joined (flagOf a ∷ flagOf b ∷ flagOf c ∷ flagOf d ∷ flagOf e ∷ flagOf f ∷ flagOf g ∷ flagOf h ∷ []) ⌝ }
+    ensures { λ r. ⌜ r
+        ≡ joined (flagOf a ∷ flagOf b ∷ flagOf c ∷ flagOf d ∷ flagOf e ∷ flagOf f ∷ flagOf g ∷ flagOf h ∷ []) ⌝ }
 {
     (flag(a) as u64)
         | (flag(b) as u64) << 8

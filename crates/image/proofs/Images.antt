@@ -8,7 +8,8 @@ use native.Mathlib.Omega.{arith}
 use borrow.Author.Tests.{eq-eqb, ne-eqb}
 use lib.Dec.{eqb}
 use lib.ListN.{length, getD, take, drop, take-append-drop, drop-of-length-le, length-append, length-drop}
-use lib.Seq.{sets, sets-eq, length-sets, getD-append-add, getD-drop, take-at, drop-at, drop-append-add, drop-drop, length-take-le}
+use lib.Seq.{sets, sets-eq, length-sets, getD-append-add, getD-drop}
+use lib.Seq.{take-at, drop-at, drop-append-add, drop-drop, length-take-le}
 use Rattle.bits.specs.Bits.{choose, flagOf}
 use Rattle.flags.specs.Bytes.{isSet}
 use Rattle.sensor.specs.Sensor.{isHot, markIf}
@@ -17,13 +18,15 @@ use Rattle.sensor.specs.declared.Mark.the-variants.{Armed, Hot}
 use Rattle.image.specs.Image.{Layout, cellsIn, withCells, withBoth, putIn, markFrom, markByte}
 
 -- bytes stored
-pub put-whole : (y : Layout) (im : List ℕ) (at : ℕ) (bs : List ℕ) → length im ≡ y .size → putIn y im at bs ≡ sets im at bs
+pub put-whole : (y : Layout) (im : List ℕ) (at : ℕ) (bs : List ℕ) → length im ≡ y .size
+    → putIn y im at bs ≡ sets im at bs
 put-whole y im at bs h = simp (eq-eqb (length im) (y .size) h)
 
 pub put-none : (y : Layout) (im : List ℕ) (at : ℕ) (bs : List ℕ) → (length im ≡ y .size → ⊥) → im ≡ putIn y im at bs
 put-none y im at bs n = simp (ne-eqb (length im) (y .size) n)
 
-pub put-length : (y : Layout) (im : List ℕ) (at : ℕ) (bs : List ℕ) → length im ≡ y .size → length (putIn y im at bs) ≡ y .size
+pub put-length : (y : Layout) (im : List ℕ) (at : ℕ) (bs : List ℕ) → length im ≡ y .size
+    → length (putIn y im at bs) ≡ y .size
 put-length y im at bs h = ap length (put-whole y im at bs h) ∙ length-sets im at bs ∙ h
 
 -- ---- an image of its size: cells and what is beside them lie in it
@@ -61,11 +64,13 @@ module _ (y : Layout) (fit : y .cells + y .beside ≤ y .size) (im : List ℕ) (
         ∙ ap₂ (λ (u v : List ℕ). u ++ bs ++ v) front rest
 
   -- what is behind the cells is as it was
-  pub beyond : (ts : List ℕ) → length ts ≡ y .cells → (p : ℕ) → y .cells ≤ p → getD (withCells y im ts) p 0 ≡ getD im p 0
+  pub beyond : (ts : List ℕ) → length ts ≡ y .cells → (p : ℕ) → y .cells ≤ p
+      → getD (withCells y im ts) p 0 ≡ getD im p 0
   beyond ts c p g =
       let q : length ts + (p - y .cells) ≡ p = omega (arith, c) in
       let r : y .cells + (p - y .cells) ≡ p = omega arith in
-      ap (λ (k : ℕ). getD (withCells y im ts) k 0) (sym q) ∙ getD-append-add ts (drop (y .cells) im) (p - y .cells) 0 ∙ getD-drop (y .cells) im (p - y .cells) 0 ∙ ap (λ (k : ℕ). getD im k 0) r
+      ap (λ (k : ℕ). getD (withCells y im ts) k 0) (sym q) ∙ getD-append-add ts (drop (y .cells) im) (p - y .cells) 0
+      ∙ getD-drop (y .cells) im (p - y .cells) 0 ∙ ap (λ (k : ℕ). getD im k 0) r
 
   -- the same cells put back leave every byte
   pub same-cells : (ts : List ℕ) → ts ≡ cellsIn y im → withCells y im ts ≡ im
@@ -82,16 +87,22 @@ module _ (y : Layout) (fit : y .cells + y .beside ≤ y .size) (im : List ℕ) (
     pub with-cells : (ts : List ℕ) → withCells y t ts ≡ withBoth y im ts bs
     with-cells ts =
         ap (λ (u : List ℕ). withCells y u ts) laid
-        ∙ ap (λ (u : List ℕ). ts ++ u) (drop-at (cellsIn y im) (bs ++ drop (y .cells + y .beside) im) (y .cells) cells-of)
+        ∙ ap (λ (u : List ℕ). ts ++ u)
+        (drop-at (cellsIn y im) (bs ++ drop (y .cells + y .beside) im) (y .cells) cells-of)
         ∙ sym (append-assoc ts bs (drop (y .cells + y .beside) im))
 
 -- ---- the spare bytes stored: all of them
-pub spare-placed : (y : Layout) (im u ts bs zs : List ℕ) → y .cells + y .beside ≤ y .size → length im ≡ y .size → length u ≡ y .size → length ts ≡ y .cells → length bs ≡ y .beside
-    → y .cells + y .beside + length zs ≡ y .size → u ≡ withBoth y im ts bs → putIn y u (y .cells + y .beside) zs ≡ ts ++ bs ++ zs
+pub spare-placed : (y : Layout) (im u ts bs zs : List ℕ) → y .cells + y .beside ≤ y .size → length im ≡ y .size
+    → length u ≡ y .size → length ts ≡ y .cells → length bs ≡ y .beside
+    → y .cells + y .beside + length zs ≡ y .size → u ≡ withBoth y im ts bs
+    → putIn y u (y .cells + y .beside) zs ≡ ts ++ bs ++ zs
 spare-placed y im u ts bs zs fit h k c n m e =
     let l : length (ts ++ bs) ≡ y .cells + y .beside = length-append ts bs ∙ omega (arith, c, n) in
-    let t : take (y .cells + y .beside) u ≡ ts ++ bs = ap (take (y .cells + y .beside)) e ∙ take-at (ts ++ bs) (drop (y .cells + y .beside) im) (y .cells + y .beside) l in
-    let d : drop (y .cells + y .beside + length zs) u ≡ [] = drop-of-length-le u {i = y .cells + y .beside + length zs} (omega arith) in
+    let t : take (y .cells + y .beside) u ≡ ts ++ bs =
+    ap (take (y .cells + y .beside)) e
+    ∙ take-at (ts ++ bs) (drop (y .cells + y .beside) im) (y .cells + y .beside) l in
+    let d : drop (y .cells + y .beside + length zs) u ≡ [] =
+    drop-of-length-le u {i = y .cells + y .beside + length zs} (omega arith) in
     put-whole y u (y .cells + y .beside) zs k
     ∙ sets-eq zs u (y .cells + y .beside) (omega arith)
     ∙ ap₂ (λ (v w : List ℕ). v ++ zs ++ w) t d

@@ -1,5 +1,5 @@
--- An image of some size: so many cells, the bytes of what is kept beside them, spare bytes; and what a call leaves of it.
--- Nothing here is of one chip.
+-- An image of some size: so many cells, the bytes of what is kept beside them, spare
+-- bytes; and what a call leaves of it. Nothing here is of one chip.
 use mathlib.Core.List.{List, _++_}
 use Prim.Native.Nat.{ℕ, _+_, _*_}
 use lib.Dec.{eqb}

@@ -23,7 +23,8 @@ pub fn planned(plan: Planned) -> u32
     }
 }
 
-// A speed: the top byte is 0 for a number, 1 too fast, 2 too slow, 80h + answer when refused; the number is in the low 24 bits.
+// A speed: the top byte is 0 for a number, 1 too fast, 2 too slow, 80h + answer when
+// refused; the number is in the low 24 bits.
 pub fn speed_word(speed: Speed) -> u32
     ensures { λ r. ⌜ r ≡ speedWord speed ⌝ }
 {

@@ -86,7 +86,8 @@ module _ {S C : Type 0} (K : Chip S C) (f : ℕ) where
 
   -- InForce.antt says how long a plan is in force
   abbrev pub watched : Machine S C Alarm
-  watched = record { step = K .step; answer = K .answer; sets = λ c. sets (K .kind c); ends = λ p c. ends p (K .kind c) }
+  watched =
+      record { step = K .step; answer = K .answer; sets = λ c. sets (K .kind c); ends = λ p c. ends p (K .kind c) }
 
   -- the plan in force after a call
   abbrev pub forceAfter : S → Force Alarm → C → Force Alarm
@@ -106,7 +107,8 @@ module _ {S C : Type 0} (K : Chip S C) (f : ℕ) where
   abbrev pub withInstead : S → Divisor → ℕ → S
   withInstead s d l = K .instead s (changes (K .registers s) (settings (K .fan f) d l))
 
-  -- a divisor and a limit ring at a/b rpm: set instead, every accepted sample with that speed's count leaves the real-time bit 1
+  -- a divisor and a limit ring at a/b rpm: set instead, every accepted sample with that
+  -- speed's count leaves the real-time bit 1
   abbrev pub RingsAt : Divisor → ℕ → ℕ → ℕ → Type 0
   RingsAt d l a b =
       (s : S) → Whole K s → (c : C) → Counts (countOf a b) (K .kind c) → K .answer (withInstead s d l) c ≡ 0
@@ -127,7 +129,8 @@ module _ {S C : Type 0} (K : Chip S C) (f : ℕ) where
     pub least : (e : Divisor) (k : ℕ) → k ≤ 255 → ((a b : ℕ) → 1 ≤ b → a ≤ w * b → RingsAt e k a b)
         → (a b : ℕ) → 1 ≤ b → RingsAt (set .divisor) (set .limit) a b → RingsAt e k a b
     -- to ring at a speed is to have its stored count above the limit: no more, and no less
-    pub ringsMeans : (e : Divisor) (k a b : ℕ) → k ≤ 255 → RingsAt e k a b ↔ (ringsAt (valueOf e) k (countOf a b) ≡ true)
+    pub ringsMeans : (e : Divisor) (k a b : ℕ) → k ≤ 255
+        → RingsAt e k a b ↔ (ringsAt (valueOf e) k (countOf a b) ≡ true)
     -- it is in force from here on, whatever was before
     pub inForce : (p : Force Alarm) → forceAfter s p c ≡ plan (alarm w (set .divisor) (set .limit))
 
@@ -157,8 +160,8 @@ module _ {S C : Type 0} (K : Chip S C) (f : ℕ) where
   Does s p c (writing es) = Unit {0}
   Does s p c other = Unit {0}
 
-  -- no plan ends too soon or too late: an accepted call that is no reset and sets no plan on this fan leaves the plan in force
-  -- exactly if it leaves the fan the plan's limit and divisor; and where none is in force, none comes
+  -- no plan ends too soon or too late: an accepted call that is no reset and sets no plan on this fan leaves the
+  -- plan in force exactly if it leaves the fan the plan's limit and divisor; and where none is in force, none comes
   abbrev pub Stays : S → Force Alarm → C → Type 0
   Stays s none c = forceAfter s none c ≡ none
   Stays s (plan p) c = (forceAfter s (plan p) c ≡ plan p) ↔ HasPlan (K .step s c) p
@@ -170,7 +173,8 @@ module _ {S C : Type 0} (K : Chip S C) (f : ℕ) where
     -- a refused call changes no state and ends nothing
     pub refused : K .answer (x .state) c ≢ 0 → next watched x c ≡ x
 
--- of every fan, every state to start from and every list of calls, at each of its calls: `before` are the calls before it
+-- of every fan, every state to start from and every list of calls, at each of its calls:
+-- `before` are the calls before it
 pub record AlarmRings {S C : Type 0} (K : Chip S C) : Type 0 where
   pub atEach : (f : ℕ) → 1 ≤ f → f ≤ K .fans → (s : S) → Whole K s → (before : List C) (c : C)
       → ClaimAt K f (afterAll (watched K f) (found s none) before) c

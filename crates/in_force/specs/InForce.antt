@@ -21,7 +21,8 @@ abbrev pub rewrites : List Change → Change → Bool
 rewrites [] e = false
 rewrites (c ∷ cs) e = differ c e || rewrites cs e
 
--- a rewrite: one of the changes that a call makes gives a bit of the fan's limit or divisor another value than the plan's
+-- a rewrite: one of the changes that a call makes gives a bit of the fan's limit or
+-- divisor another value than the plan's
 abbrev pub rewritten : List Change → List Change → Bool
 rewritten cs [] = false
 rewritten cs (e ∷ es) = rewrites cs e || rewritten cs es
@@ -75,16 +76,20 @@ afterAll M x cs = foldl (next M) x cs
 -- what that comes to, call by call
 pub record InForce {S C P : Type 0} (M : Machine S C P) : Type 0 where
   -- an accepted plan on the fan is in force, whatever was before
-  pub set : (s : S) (p : Force P) (q : P) (c : C) → M .answer s c ≡ 0 → M .sets c ≡ plan q → next M (found s p) c .force ≡ plan q
+  pub set : (s : S) (p : Force P) (q : P) (c : C) → M .answer s c ≡ 0 → M .sets c ≡ plan q
+      → next M (found s p) c .force ≡ plan q
   -- any other accepted call ends the plan exactly if it is a reset or a rewrite, and puts none in force
-  pub ended : (s : S) (p : P) (c : C) → M .answer s c ≡ 0 → M .sets c ≡ none → M .ends p c ≡ true → next M (found s (plan p)) c .force ≡ none
-  pub kept : (s : S) (p : P) (c : C) → M .answer s c ≡ 0 → M .sets c ≡ none → M .ends p c ≡ false → next M (found s (plan p)) c .force ≡ plan p
+  pub ended : (s : S) (p : P) (c : C) → M .answer s c ≡ 0 → M .sets c ≡ none → M .ends p c ≡ true
+      → next M (found s (plan p)) c .force ≡ none
+  pub kept : (s : S) (p : P) (c : C) → M .answer s c ≡ 0 → M .sets c ≡ none → M .ends p c ≡ false
+      → next M (found s (plan p)) c .force ≡ plan p
   pub nothing : (s : S) (c : C) → M .answer s c ≡ 0 → M .sets c ≡ none → next M (found s none) c .force ≡ none
   -- a refused call ends nothing
   pub refused : (s : S) (p : Force P) (c : C) → M .answer s c ≢ 0 → next M (found s p) c .force ≡ p
   -- each call finds what the one before it left, plan and state
   pub first : (x : Found S P) → afterAll M x [] ≡ x
-  pub each : (x : Found S P) (before : List C) (c : C) → afterAll M x (before ++ c ∷ []) ≡ next M (afterAll M x before) c
+  pub each : (x : Found S P) (before : List C) (c : C)
+      → afterAll M x (before ++ c ∷ []) ≡ next M (afterAll M x before) c
   pub state : (x : Found S P) (cs : List C) → afterAll M x cs .state ≡ foldl (M .step) (x .state) cs
 
 -- ---- what a machine must have
@@ -104,7 +109,8 @@ InState Has s (plan p) = Has s p
 abbrev pub HasForce : {S P : Type 0} → (S → P → Type 0) → Found S P → Type 0
 HasForce Has x = InState Has (x .state) (x .force)
 
--- then what follows of one call that finds such a plan is true of each call of every list, from every state and every plan in it
+-- then what follows of one call that finds such a plan is true of each call of every
+-- list, from every state and every plan in it
 abbrev pub Lists : Type 1
 Lists =
     (S C P : Type 0) (M : Machine S C P) (Fit : S → Type 0) (Has : S → P → Type 0) (Claim : Found S P → C → Type 0)

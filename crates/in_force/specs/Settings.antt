@@ -51,8 +51,13 @@ hasCell (p ∷ ps) c = eqb c (p .cell) || hasCell ps c
 
 -- among n cells: one for the limit, and three bits elsewhere
 unfoldable pub isSound : ℕ → Fan → Bool
-isSound n f = ltb (f .limit) n && (inside n (f .places) && (distinct (f .places) && (eqb (length (f .places)) 3 && not (hasCell (f .places) (f .limit)))))
+isSound n f =
+    ltb (f .limit) n
+    && (inside n (f .places)
+    && (distinct (f .places) && (eqb (length (f .places)) 3 && not (hasCell (f .places) (f .limit)))))
 
 -- setting the first leaves the second
 unfoldable pub isApart : Fan → Fan → Bool
-isApart f g = not (eqb (f .limit) (g .limit)) && (not (hasCell (f .places) (g .limit)) && (not (hasCell (g .places) (f .limit)) && apart (f .places) (g .places)))
+isApart f g =
+    not (eqb (f .limit) (g .limit))
+    && (not (hasCell (f .places) (g .limit)) && (not (hasCell (g .places) (f .limit)) && apart (f .places) (g .places)))

@@ -24,4 +24,5 @@ pub record PlanSet (rs ts : List ℕ) (f : Fan) (w : ℕ) : Type 0 where
   pub divisorSet : divisorIn ts f ≡ divisor
   pub limitSet : limitIn ts f ≡ limit
   -- and no bit but that fan's limit and divisor changes
-  pub kept : (c j : ℕ) → j < 8 → eqb c (f .limit) ≡ false → isIn (f .places) c j ≡ false → bit (getD ts c 0) j ≡ bit (getD rs c 0) j
+  pub kept : (c j : ℕ) → j < 8 → eqb c (f .limit) ≡ false → isIn (f .places) c j ≡ false
+      → bit (getD ts c 0) j ≡ bit (getD rs c 0) j

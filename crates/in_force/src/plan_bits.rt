@@ -14,7 +14,8 @@ const WHOLE: u8 = 0xff;
 
 // The plan's limit and divisor bits put, every other bit of every cell kept; no plan leaves all.
 pub fn put_plan(s: &mut [u8], limit: usize, field: Field, planned: Planned) -> u8
-    ensures registers { λ r. ⌜ now (s .exit) ≡ plannedRegisters (now (s .entry)) (fanAt limit (placesOf field)) planned ⌝ }
+    ensures registers { λ r. ⌜ now (s .exit)
+        ≡ plannedRegisters (now (s .entry)) (fanAt limit (placesOf field)) planned ⌝ }
     ensures answer { λ r. ⌜ r ≡ planAnswer planned ⌝ }
 {
     match planned {

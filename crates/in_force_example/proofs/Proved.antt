@@ -26,7 +26,9 @@ use Rattle.in_force.specs.Chip.{reset, writing, Whole}
 use Rattle.in_force.specs.Laws.{Keeps, Stores, Leaves, AnsweredAs, Takes, ChipLaws}
 use Rattle.in_force.proofs.Instances.{isOf, keeps-cells, within, isWide, all-wide, bus-write}
 use Rattle.in_force.proofs.Chips.{every-chip}
-use Rattle.in_force_example.specs.Machine.{State, state, fanOf, maskAt, powerOn, Call, write, look, sample, setPlan, putBack, countOf, isReset, slow, back, registersAfter, answerTo, looksAfter, after, kindOf, machine, AlarmRings}
+use Rattle.in_force_example.specs.Machine.{State, state, fanOf, maskAt, powerOn, Call, write, look}
+use Rattle.in_force_example.specs.Machine.{sample, setPlan, putBack, countOf, isReset, slow, back, registersAfter}
+use Rattle.in_force_example.specs.Machine.{answerTo, looksAfter, after, kindOf, machine, AlarmRings}
 
 -- ---- where the settings lie
 sound : (f : ℕ) → 1 ≤ f → f ≤ 2 → isSound 5 (fanOf f) ≡ true
@@ -38,12 +40,16 @@ unfolding isApart hasCell apart isIn
 fans-apart = all-apart 2 fanOf tt
 
 -- ---- a call: refused, or done
-view : (P : State → Type 0) (s : State) (c : Call) → (answerTo s c ≡ 0 → P (state (registersAfter (s .registers) c) (looksAfter (s .looks) c)))
+view : (P : State → Type 0) (s : State) (c : Call)
+    → (answerTo s c ≡ 0 → P (state (registersAfter (s .registers) c) (looksAfter (s .looks) c)))
     → (answerTo s c ≢ 0 → P s) → P (after s c)
 unfolding after
-view P s c done refused = choose-ind P (eqb (answerTo s c) 0) _ _ (λ e. done (eqb-true (answerTo s c) 0 e)) (λ e. refused (eqb-false (answerTo s c) 0 e))
+view P s c done refused =
+    choose-ind P (eqb (answerTo s c) 0) _ _ (λ e. done (eqb-true (answerTo s c) 0 e))
+    (λ e. refused (eqb-false (answerTo s c) 0 e))
 
-done : (s : State) (c : Call) → answerTo s c ≡ 0 → after s c ≡ state (registersAfter (s .registers) c) (looksAfter (s .looks) c)
+done : (s : State) (c : Call) → answerTo s c ≡ 0
+    → after s c ≡ state (registersAfter (s .registers) c) (looksAfter (s .looks) c)
 unfolding after
 done s c a = rw a
 
@@ -53,7 +59,8 @@ planned-length rs f Refused = refl
 
 registers-whole : (rs : List ℕ) (c : Call) → length rs ≡ 5 → length (registersAfter rs c) ≡ 5
 registers-whole rs (write k v) w =
-    choose-ind (λ (ts : List ℕ). length ts ≡ 5) (isReset k v) _ _ (λ _. refl) (λ _. changes-length (change k (maskAt k) v ∷ []) rs ∙ w)
+    choose-ind (λ (ts : List ℕ). length ts ≡ 5) (isReset k v) _ _ (λ _. refl)
+    (λ _. changes-length (change k (maskAt k) v ∷ []) rs ∙ w)
 registers-whole rs look w = w
 registers-whole rs (sample a b) w = length-set rs 4 _ ∙ w
 registers-whole rs (setPlan f x) w = planned-length rs f (planOf x) ∙ w
@@ -73,16 +80,22 @@ wide-at = all-wide 2 4 fanOf maskAt tt
 mask-lt : (k : ℕ) → k < 4 → maskAt k < 256
 mask-lt = less-below 4 maskAt (λ k. 256) tt
 
-writes : (rs : List ℕ) (k v : ℕ) → k < 4 → Stores machine rs (changes rs (change k (maskAt k) v ∷ [])) (change k 0xFF v ∷ [])
-writes rs k v h = bus-write machine rs k k (maskAt k) v (omega arith) (mask-lt k h) (λ f i i′. wide-at f k i i′ h) (λ f i i′ d l. refl)
+writes : (rs : List ℕ) (k v : ℕ) → k < 4
+    → Stores machine rs (changes rs (change k (maskAt k) v ∷ [])) (change k 0xFF v ∷ [])
+writes rs k v h =
+    bus-write machine rs k k (maskAt k) v (omega arith) (mask-lt k h) (λ f i i′. wide-at f k i i′ h)
+    (λ f i i′ d l. refl)
 
 puts-back : (rs : List ℕ) (a b k₁ k₂ : ℕ) → Stores machine rs (changes rs (back a b k₁ k₂)) (back a b k₁ k₂)
 unfolding digitsOf
-puts-back rs a b k₁ k₂ = record { to = back a b k₁ k₂; stored = refl; inside = refl; once = refl; same = λ f i i′ e l. (λ z. z, λ z. z) }
+puts-back rs a b k₁ k₂ =
+    record { to = back a b k₁ k₂; stored = refl; inside = refl; once = refl; same = λ f i i′ e l. (λ z. z, λ z. z) }
 
 no-place : (f c : ℕ) → c ≢ 3 → hasCell (fanOf f .places) c ≡ false
 unfolding hasCell
-no-place f c n = choose-ind (λ (ps : List Place). hasCell ps c ≡ false) (eqb f 1) _ _ (λ _. simp (ne-eqb c 3 n)) (λ _. simp (ne-eqb c 3 n))
+no-place f c n =
+    choose-ind (λ (ps : List Place). hasCell ps c ≡ false) (eqb f 1) _ _ (λ _. simp (ne-eqb c 3 n))
+    (λ _. simp (ne-eqb c 3 n))
 
 not-four : (f : ℕ) → f ≤ 2 → isOf (fanOf f) 4 ≡ false
 not-four f h = simp (ne-eqb 4 f (λ e. omega arith), no-place f 4 (λ e. omega arith))
@@ -102,18 +115,24 @@ two-bits false false = (refl, refl)
 rings : (rs : List ℕ) (a b : ℕ) → length rs ≡ 5 → (f : ℕ) → 1 ≤ f → f ≤ 2
     → bit (getD (set rs 4 (word (slow rs 1 a ∷ slow rs 2 b ∷ []))) 4 0) (f - 1) ≡ flagOf (slow rs f (countOf a b f))
 rings rs a b w zero h h′ = absurd (omega arith)
-rings rs a b w (suc zero) h h′ = ap (λ (x : ℕ). bit x 0) (getD-set-same rs 4 _ 0 (omega arith)) ∙ two-bits (slow rs 1 a) (slow rs 2 b) .0
-rings rs a b w (suc (suc zero)) h h′ = ap (λ (x : ℕ). bit x 1) (getD-set-same rs 4 _ 0 (omega arith)) ∙ two-bits (slow rs 1 a) (slow rs 2 b) .1
+rings rs a b w (suc zero) h h′ =
+    ap (λ (x : ℕ). bit x 0) (getD-set-same rs 4 _ 0 (omega arith)) ∙ two-bits (slow rs 1 a) (slow rs 2 b) .0
+rings rs a b w (suc (suc zero)) h h′ =
+    ap (λ (x : ℕ). bit x 1) (getD-set-same rs 4 _ 0 (omega arith)) ∙ two-bits (slow rs 1 a) (slow rs 2 b) .1
 rings rs a b w (suc (suc (suc f))) h h′ = absurd (omega arith)
 
-leaves : (s : State) (c : Call) → Whole machine s → answerTo s c ≡ 0 → Leaves machine s (state (registersAfter (s .registers) c) (looksAfter (s .looks) c)) (kindOf c)
+leaves : (s : State) (c : Call) → Whole machine s → answerTo s c ≡ 0
+    → Leaves machine s (state (registersAfter (s .registers) c) (looksAfter (s .looks) c)) (kindOf c)
 leaves s (write k v) w a =
     by (isReset k v) refl
   where
     small : k < 4
-    small = ltb-true k 4 (choose-ind (λ (x : ℕ). x ≡ 0 → ltb k 4 ≡ true) (ltb k 4) 0 2 (λ e _. e) (λ _ z. absurd (omega arith)) a)
+    small =
+        ltb-true k 4 (choose-ind (λ (x : ℕ). x ≡ 0 → ltb k 4 ≡ true) (ltb k 4) 0 2 (λ e _. e)
+        (λ _ z. absurd (omega arith)) a)
 
-    by : (t : Bool) → isReset k v ≡ t → Leaves machine s (state (registersAfter (s .registers) (write k v)) (s .looks)) (kindOf (write k v))
+    by : (t : Bool) → isReset k v ≡ t
+        → Leaves machine s (state (registersAfter (s .registers) (write k v)) (s .looks)) (kindOf (write k v))
     by true e = simp e
     by false e = simp e (writes (s .registers) k v small)
 leaves s look w a = record { limit = λ f h h′. refl; bits = λ f h h′. refl }
@@ -125,7 +144,9 @@ accepted : (s : State) (c : Call) → Whole machine s → answerTo s c ≡ 0 →
 accepted s c w a = rw (done s c a) (leaves s c w a)
 
 answered : (s : State) (c : Call) → AnsweredAs machine (answerTo s c) (kindOf c)
-answered s (write k v) = choose-ind (AnsweredAs machine (answerTo s (write k v))) (isReset k v) reset (writing (change k 0xFF v ∷ [])) (λ _. tt) (λ _. tt)
+answered s (write k v) =
+    choose-ind (AnsweredAs machine (answerTo s (write k v))) (isReset k v) reset (writing (change k 0xFF v ∷ []))
+    (λ _. tt) (λ _. tt)
 answered s look = tt
 answered s (sample a b) = tt
 answered s (setPlan f w) = rw (plan-of-is w .answer)
@@ -152,7 +173,9 @@ laws =
       sound = sound;
       apart = fans-apart;
       instead = λ s rs. refl;
-      waits = λ s f h h′ d l. rw (put-other (s .registers) (fanOf f) d l 4 (λ e. omega arith) (no-place f 4 (λ e. omega arith)));
+      waits =
+          λ s f h h′ d l. rw (put-other (s .registers) (fanOf f) d l 4 (λ e. omega arith)
+          (no-place f 4 (λ e. omega arith)));
       whole = whole;
       refused = refused;
       accepted = accepted;

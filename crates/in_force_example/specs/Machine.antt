@@ -1,6 +1,6 @@
--- A small machine of two fans, no chip's, that crate `in_force`'s claim is held against: the fans' divisors share a cell, one call is
--- none that a plan knows, and one rewrites several cells. Cell 0 has start in bit 0 and reset in bit 7, 1 and 2 the limits, 3 the
--- divisors (fan 1 in bits 2-0, fan 2 in 6-4), 4 the real-time bits.
+-- A small machine of two fans, no chip's, that crate `in_force`'s claim is held against: the fans' divisors share
+-- a cell, one call is none that a plan knows, and one rewrites several cells. Cell 0 has start in bit 0 and reset
+-- in bit 7, 1 and 2 the limits, 3 the divisors (fan 1 in bits 2-0, fan 2 in 6-4), 4 the real-time bits.
 use mathlib.Core.Bool.{Bool, _&&_}
 use mathlib.Core.List.{List, [], _∷_, _++_}
 use Prim.Native.Nat.{ℕ, suc, _-_}

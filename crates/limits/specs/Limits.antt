@@ -1,4 +1,5 @@
--- Readings against their limits, by the cells that hold them: a rail has three cells, a fan two, a sensor of nine bits seven.
+-- Readings against their limits, by the cells that hold them: a rail has three cells, a
+-- fan two, a sensor of nine bits seven.
 use mathlib.Core.Bool.{Bool, _||_}
 use mathlib.Core.List.{List}
 use Prim.Native.Nat.{ℕ, _+_}

@@ -17,7 +17,8 @@ pub word-is : (high low : ℕ) → high * 256 + low ≡ number (high ∷ low ∷
 unfolding numberAfter
 word-is high low = omega arith
 
-pub signed-by-bytes : (z : ℤ) {x a b : ℕ} → mag z < 32768 → x ≡ codeOf half16 (toZ w16 (ofZ w16 z)) → a ≡ x / 256 % 256 → b ≡ x % 256
+pub signed-by-bytes : (z : ℤ) {x a b : ℕ} → mag z < 32768 → x ≡ codeOf half16 (toZ w16 (ofZ w16 z)) → a ≡ x / 256 % 256
+    → b ≡ x % 256
     → a ∷ b ∷ [] ≡ bigEnd 2 (codeOf half16 z) []
 signed-by-bytes z f e p q = rw (p, q, e, toZ-ofZ w16 z (record { sfits = f }))
 

@@ -53,8 +53,8 @@ fn put_figure(
     put_byte(out, e, b'\n')
 }
 
-// The number that is so many places behind a place, or 0 where the slice has none. The place is tested first: the sum of
-// both may be more than a usize holds.
+// The number that is so many places behind a place, or 0 where the slice has none. The
+// place is tested first: the sum of both may be more than a usize holds.
 fn number_at(numbers: &[i64], place: usize, more: usize) -> i64
     ensures { λ r. ⌜ r ≡ getD (now (numbers .entry)) (place + more) (pos 0) ⌝ }
 {

@@ -46,14 +46,14 @@ abbrev pub turned : Mark → Mark
 turned Armed = Hot
 turned Hot = Armed
 
--- T-1: in comparator mode, latched at each sample above the over limit; T-2: in two-times mode, at each crossing that the mark
--- waits for, one step a sample. decisions D-42, D-43
+-- T-1: in comparator mode, latched at each sample above the over limit; T-2: in two-times
+-- mode, at each crossing that the mark waits for, one step a sample. decisions D-42, D-43
 unfoldable pub statusOf : Mode → Mark → Bool → Bool → Status
 statusOf Comparator m above below = status (markIf above) above
 statusOf Interrupt m above below = choose (crosses m above below) (status (turned m) true) (status m false)
 
--- O-2: comparator, above asserts, otherwise below releases, otherwise it stays; O-3: interrupt, each crossing that its own mark
--- waits for asserts. decisions D-42, D-44
+-- O-2: comparator, above asserts, otherwise below releases, otherwise it stays; O-3:
+-- interrupt, each crossing that its own mark waits for asserts. decisions D-42, D-44
 unfoldable pub outputOf : Mode → Output → Bool → Bool → Output
 outputOf Comparator o above below = output (markIf above) (choose above true (choose below false (o .asserted)))
 outputOf Interrupt o above below = choose (crosses (o .mark) above below) (output (turned (o .mark)) true) o

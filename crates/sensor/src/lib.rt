@@ -83,9 +83,9 @@ pub fn mark_if(hot: bool) -> Mark
     Mark::Armed
 }
 
-// The status step of one sensor at a sample, above its over limit or not, below its hysteresis or not. Interrupt mode goes
-// by its cases, here and in the OVT step: a function for the crossing that the mark waits for leaves the compiler no branch
-// to make, and costs up to 76 instructions a sample.
+// The status step of one sensor at a sample, above its over limit or not, below its hysteresis or
+// not. Interrupt mode goes by its cases, here and in the OVT step: a function for the crossing that
+// the mark waits for leaves the compiler no branch to make, and costs up to 76 instructions a sample.
 pub fn status_step(mode: Mode, mark: Mark, above: bool, below: bool) -> Status
     ensures { λ r. ⌜ r ≡ statusOf mode mark above below ⌝ }
 {

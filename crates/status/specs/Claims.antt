@@ -13,4 +13,5 @@ pub data UnmaskedBit (s1 m1 s2 m2 : ℕ) : Type 0 where
 
 -- the test finds one exactly where there is one
 abbrev pub AnyUnmaskedExactly : Type 0
-AnyUnmaskedExactly = (s1 m1 s2 m2 : ℕ) → m1 < 256 → m2 < 256 → (anyUnmasked s1 m1 s2 m2 ≡ true) ↔ UnmaskedBit s1 m1 s2 m2
+AnyUnmaskedExactly =
+    (s1 m1 s2 m2 : ℕ) → m1 < 256 → m2 < 256 → (anyUnmasked s1 m1 s2 m2 ≡ true) ↔ UnmaskedBit s1 m1 s2 m2

@@ -1,4 +1,5 @@
--- Two status bytes and their masks: what the masks leave, the count of the set bits, and what an event leaves of a byte.
+-- Two status bytes and their masks: what the masks leave, the count of the set bits, and
+-- what an event leaves of a byte.
 use mathlib.Core.Bool.{Bool, not}
 use Prim.Native.Nat.{ℕ, _+_, _-_, max}
 use lib.Bits.{bitAnd, bitOr}

@@ -1,5 +1,5 @@
-// Two status bytes and their masks: whether a bit is set that its mask leaves, how many bits are set, and bits of both, such as
-// those that an event latches. Nothing here is of one chip.
+// Two status bytes and their masks: whether a bit is set that its mask leaves, how many bits
+// are set, and bits of both, such as those that an event latches. Nothing here is of one chip.
 ghost use mathlib.Core.Path.{_≡_};
 ghost use Prim.Native.Nat.{_≤_};
 ghost use Rattle.status.specs.Status.{anyUnmasked, alarmCount};

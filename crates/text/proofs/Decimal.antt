@@ -135,6 +135,7 @@ pub put-ten : (o p q : List ℕ) (at l m n : ℕ) → 10 ≤ n → Put o at (dec
 put-ten o p q at l m n h f g = rw (decimal-more n h) (f then g)
 
 -- a number behind a space
-pub put-behind-space : (o p q : List ℕ) (at l m n : ℕ) → Put o at (32 ∷ []) p l → Put p l (decimal n) q m → Put o at (spaced n) q m
+pub put-behind-space : (o p q : List ℕ) (at l m n : ℕ) → Put o at (32 ∷ []) p l → Put p l (decimal n) q m
+    → Put o at (spaced n) q m
 unfolding spaced
 put-behind-space o p q at l m n f g = f then g

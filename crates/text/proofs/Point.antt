@@ -19,7 +19,8 @@ last-count (suc k) n = length-append (lastDigits k (n / 10)) (digit n ∷ []) �
 last-digits : (k n : ℕ) → Digits (lastDigits k n)
 unfolding lastDigits
 last-digits zero n = tt
-last-digits (suc k) n = digits-snoc (lastDigits k (n / 10)) (digit n) (last-digits k (n / 10)) (omega arith) (omega arith)
+last-digits (suc k) n =
+    digits-snoc (lastDigits k (n / 10)) (digit n) (last-digits k (n / 10)) (omega arith) (omega arith)
 
 -- the whole part, a digit at a time
 whole-more : (k n : ℕ) → n / 10 ^ suc k ≡ n / 10 / 10 ^ k
@@ -42,7 +43,8 @@ has-point (suc k) n h = refl
 
 pub all-places : Places
 unfolding places
-all-places = record { none = λ n. refl; point = has-point; count = last-count; digits = last-digits; means = last-means }
+all-places =
+    record { none = λ n. refl; point = has-point; count = last-count; digits = last-digits; means = last-means }
 
 -- ---- as it is put
 pub put-point : (o p q : List ℕ) (at l m n k : ℕ) → k ≡ 0 → Put o at (decimal n) p l → Put p l (46 ∷ []) q m

@@ -1,5 +1,5 @@
--- A signed number: its magnitude as the machine makes it, one more than -1 - z below 0; its characters and their meaning.
--- Assumes nothing.
+-- A signed number: its magnitude as the machine makes it, one more than -1 - z below 0;
+-- its characters and their meaning. Assumes nothing.
 use Prim.Native.Nat.{ℕ, suc, _+_, _^_, _≤_, _<_}
 use native.Mathlib.Omega.{arith}
 use native.Mathlib.Numerals.{add-one}

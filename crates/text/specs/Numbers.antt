@@ -70,7 +70,8 @@ unfoldable pub places : ℕ → ℕ → List ℕ
 places zero n = decimal n
 places (suc k) n = pointed (suc k) n
 
--- what is claimed of places: before the point is the whole number, and after it are k digits, which are what that leaves
+-- what is claimed of places: before the point is the whole number, and after it are k
+-- digits, which are what that leaves
 pub record Places : Type 0 where
   pub none : (n : ℕ) → places 0 n ≡ decimal n
   pub point : (k n : ℕ) → 0 < k → places k n ≡ decimal (n / 10 ^ k) ++ (ascii "." ++ lastDigits k n)

@@ -1,6 +1,7 @@
-// Text in a lent buffer. A `put` writes as far as the buffer goes and answers the place after its characters, also where
-// that is past the buffer's end: so puts follow one another with no test between them, and the last place tells whether
-// all of it fitted. Crate `text_hex` has digits of base 16, and `text_push` has pushes, which write all of their characters or none.
+// Text in a lent buffer. A `put` writes as far as the buffer goes and answers the place after
+// its characters, also where that is past the buffer's end: so puts follow one another with no
+// test between them, and the last place tells whether all of it fitted. Crate `text_hex` has
+// digits of base 16, and `text_push` has pushes, which write all of their characters or none.
 ghost use mathlib.Core.Path.{_≡_};
 ghost use mathlib.Core.List.{[], _∷_};
 ghost use Rattle.text.specs.Text.{Put};

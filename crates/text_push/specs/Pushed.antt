@@ -24,8 +24,8 @@ pushed o at w =
     (page (sets o at w) (record { at = at + length w; ok = true }))
     (page o (record { at = at; ok = false }))
 
--- what is claimed of a push: where there is room, the word is at the place and every other byte is as it was; where there
--- is none, every byte is as it was
+-- what is claimed of a push: where there is room, the word is at the place and every
+-- other byte is as it was; where there is none, every byte is as it was
 pub record Pushes : Type 0 where
   pub fits : (o : List ℕ) (at : ℕ) (w : List ℕ) → at + length w ≤ length o
       → pushed o at w ≡ page (take at o ++ (w ++ drop (at + length w) o)) (record { at = at + length w; ok = true })

@@ -1,5 +1,5 @@
-// Text in a lent buffer, all or nothing: a `push` that does not fit is refused and leaves every byte. Each first puts its
-// characters into a buffer of one byte, which tells where they end.
+// Text in a lent buffer, all or nothing: a `push` that does not fit is refused and leaves every
+// byte. Each first puts its characters into a buffer of one byte, which tells where they end.
 ghost use mathlib.Core.Path.{_≡_};
 ghost use Rattle.text_push.specs.Pushed.{page, pushed, Pushes};
 ghost use Rattle.text.specs.Numbers.{decimal, Decimals, places, Places, signed, Signs, signedPlaces};

@@ -1,5 +1,5 @@
--- The definitions of Bus.antt by their cases, over plain variables: what each branch of the code knows gives what it ensures.
--- Assumes nothing.
+-- The definitions of Bus.antt by their cases, over plain variables: what each branch of
+-- the code knows gives what it ensures. Assumes nothing.
 use mathlib.Core.Path.{_≡_, sym, _∙_}
 use mathlib.Core.Bool.{Bool, true, false, not, _&&_}
 use mathlib.Core.List.{List, [], _∷_}
@@ -17,7 +17,8 @@ use Rattle.w83782d_registers.specs.Parts.{restoredRegisters, restoredIn}
 use Rattle.w83782d_registers.proofs.Cases.{restored-in}
 use Rattle.w83782d_latches.specs.declared.Latches.{Latches}
 use Rattle.w83782d_latches.specs.Effects.{powerOnLatches, writtenLatches, readLatches}
-use Rattle.w83782d_bus.specs.Bus.{state, powerOn, writtenRegisters, writtenIn, writeOf, written, readRegisters, readIn, readOf, read, sized, sizedRead}
+use Rattle.w83782d_bus.specs.Bus.{state, powerOn, writtenRegisters, writtenIn, writeOf, written}
+use Rattle.w83782d_bus.specs.Bus.{readRegisters, readIn, readOf, read, sized, sizedRead}
 
 -- ---- power-on and reset
 restored-reset : (rs : List ℕ) → restoredRegisters true rs ≡ resetRegisters rs
@@ -32,7 +33,8 @@ module _ (rs : List ℕ) (l : Latches) (e : l ≡ powerOnLatches) where
   pub power-on-short : (length rs ≡ cells → ⊥) → written (state rs l) 8 ≡ sized rs powerOnLatches (written powerOn 0)
   power-on-short n = simp (ne-eqb (length rs) cells n, e)
 
-  pub power-on-whole : (ts : List ℕ) → length rs ≡ cells → ts ≡ restoredIn false rs → written (state ts l) 0 ≡ sized rs powerOnLatches (written powerOn 0)
+  pub power-on-whole : (ts : List ℕ) → length rs ≡ cells → ts ≡ restoredIn false rs
+      → written (state ts l) 0 ≡ sized rs powerOnLatches (written powerOn 0)
   power-on-whole ts h f = simp (eq-eqb (length rs) cells h, e, f, ← restored-in false rs h, restored-power-on rs)
 
 -- ---- a write
@@ -45,9 +47,11 @@ written-whole rs c v h = simp (eq-eqb (length rs) cells h)
 module _ (c v : ℕ) (b : Bool) (e : b ≡ (eqb c configuration && isOn v 7)) where
   pub write-reset : (rs ts : List ℕ) → length rs ≡ cells → b ≡ true → ts ≡ restoredIn true rs → ts ≡ writtenIn rs c v
   unfolding writtenRegisters
-  write-reset rs ts h t f = simp (eq-eqb (length rs) cells h, ← e, t) (f ∙ sym (restored-in true rs h) ∙ restored-reset rs)
+  write-reset rs ts h t f =
+      simp (eq-eqb (length rs) cells h, ← e, t) (f ∙ sym (restored-in true rs h) ∙ restored-reset rs)
 
-  pub write-store : (rs ts : List ℕ) (m : ℕ) → length rs ≡ cells → b ≡ false → m ≡ storedBits c → ts ≡ changes rs (change c m v ∷ []) → ts ≡ writtenIn rs c v
+  pub write-store : (rs ts : List ℕ) (m : ℕ) → length rs ≡ cells → b ≡ false → m ≡ storedBits c
+      → ts ≡ changes rs (change c m v ∷ []) → ts ≡ writtenIn rs c v
   unfolding writtenRegisters
   write-store rs ts m h t f g = simp (eq-eqb (length rs) cells h, ← e, t, ← f, g)
 
@@ -96,7 +100,8 @@ module _ (rs : List ℕ) (l : Latches) (i : ℕ) where
     unfolding readOf
     read-refused n = simp (eq-eqb (length rs) cells h, ← e, ← f, not-true p n)
 
-    pub read-accepted : (ts : List ℕ) (m : Latches) (b : ℕ) → not p ≡ false → b ≡ shownOf rs (l .chassis) c → m ≡ readLatches rs l c → ts ≡ readIn rs c
+    pub read-accepted : (ts : List ℕ) (m : Latches) (b : ℕ) → not p ≡ false → b ≡ shownOf rs (l .chassis) c
+        → m ≡ readLatches rs l c → ts ≡ readIn rs c
         → read (state ts m) 0 b ≡ sizedRead rs l (readOf (state rs l) i)
     unfolding readOf
     read-accepted ts m b n g k j = simp (eq-eqb (length rs) cells h, ← e, ← f, not-false p n, ← g, ← k, j)

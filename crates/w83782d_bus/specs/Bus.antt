@@ -32,7 +32,8 @@ powerOn = state powerOnRegisters powerOnLatches
 
 -- M-4: each writable bit gets the byte's bit, every other keeps its value; M-8: a reset apart
 unfoldable pub writtenRegisters : List ℕ → ℕ → ℕ → List ℕ
-writtenRegisters rs c v = choose (eqb c configuration && isOn v 7) (resetRegisters rs) (changes rs (change c (storedBits c) v ∷ []))
+writtenRegisters rs c v =
+    choose (eqb c configuration && isOn v 7) (resetRegisters rs) (changes rs (change c (storedBits c) v ∷ []))
 
 pub record Written : Type 0 where
   pub state : State
@@ -67,7 +68,8 @@ read s a b = record { state = s; answer = a; byte = b }
 abbrev pub readAt : State → ℕ → Read
 readAt s c =
     choose (presentAt c)
-    (read (state (readRegisters (s .registers) c) (readLatches (s .registers) (s .latches) c)) 0 (shownOf (s .registers) (s .latches .chassis) c))
+    (read (state (readRegisters (s .registers) c) (readLatches (s .registers) (s .latches) c)) 0
+    (shownOf (s .registers) (s .latches .chassis) c))
     (read s answers.absent 0)
 
 unfoldable pub readOf : State → ℕ → Read

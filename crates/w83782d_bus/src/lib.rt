@@ -2,7 +2,8 @@
 // power-on, bus write, bus read and reset.
 ghost use mathlib.Core.Path.{_≡_};
 ghost use Rattle.w83782d_latches.specs.Effects.{powerOnLatches};
-ghost use Rattle.w83782d_bus.specs.Bus.{state, powerOn, writtenIn, writeOf, written, readIn, readOf, sized, sizedRead, outcomeIn, readOutcomeIn};
+ghost use Rattle.w83782d_bus.specs.Bus.{state, powerOn, writtenIn, writeOf, written, readIn};
+ghost use Rattle.w83782d_bus.specs.Bus.{readOf, sized, sizedRead, outcomeIn, readOutcomeIn};
 use answers::ABSENT;
 use answers::ACCEPTED;
 use answers::WRONG_LENGTH;
@@ -72,9 +73,11 @@ pub fn write_registers(s: &mut [u8], cell: usize, value: u8)
     store(s, cell, stored_bits(cell), value);
 }
 
-// A bus write in place. Refused as 1 or 2 it leaves registers and latches; a slice that is not of 112 cells is refused as 8.
+// A bus write in place. Refused as 1 or 2 it leaves registers and latches; a slice that
+// is not of 112 cells is refused as 8.
 pub fn write_in(s: &mut [u8], l: Latches, index: u8, value: u8) -> Outcome
-    ensures { λ r. ⌜ outcomeIn (now (s .exit)) r ≡ sized (now (s .entry)) l (writeOf (state (now (s .entry)) l) index value) ⌝ }
+    ensures { λ r. ⌜ outcomeIn (now (s .exit)) r
+        ≡ sized (now (s .entry)) l (writeOf (state (now (s .entry)) l) index value) ⌝ }
 {
     if s.len() != CELLS {
         return Outcome {
@@ -112,9 +115,11 @@ pub fn read_registers(s: &mut [u8], cell: usize)
     }
 }
 
-// A bus read in place. Refused as 1 it shows 0 and leaves registers and latches; a slice that is not of 112 cells is refused as 8.
+// A bus read in place. Refused as 1 it shows 0 and leaves registers and latches; a slice
+// that is not of 112 cells is refused as 8.
 pub fn read_in(s: &mut [u8], l: Latches, index: u8) -> ReadOutcome
-    ensures { λ r. ⌜ readOutcomeIn (now (s .exit)) r ≡ sizedRead (now (s .entry)) l (readOf (state (now (s .entry)) l) index) ⌝ }
+    ensures { λ r. ⌜ readOutcomeIn (now (s .exit)) r
+        ≡ sizedRead (now (s .entry)) l (readOf (state (now (s .entry)) l) index) ⌝ }
 {
     if s.len() != CELLS {
         return ReadOutcome {

@@ -1,5 +1,5 @@
--- Demand 3 for the W83782D: its calls, what each is to a plan in force, and where its fans' bits are. Crate `in_force` has the claim
--- itself, once for every chip (Chip.antt), and how long a plan is in force (InForce.antt).
+-- Demand 3 for the W83782D: its calls, what each is to a plan in force, and where its fans' bits are. Crate
+-- `in_force` has the claim itself, once for every chip (Chip.antt), and how long a plan is in force (InForce.antt).
 use mathlib.Core.Path.{_≡_}
 use mathlib.Core.Bool.{Bool, _&&_}
 use mathlib.Core.List.{List, [], _∷_, map}
@@ -44,8 +44,8 @@ answerTo s (setPlan f w) = setPlanOf s f w
 abbrev pub isReset : ℕ → ℕ → Bool
 isReset i v = eqb i 0x40 && isOn v 7
 
--- the cell that an accepted write to an index reaches, where that is one of a plan's: 60h to 7Fh are 20h to 3Fh (M-2), and 5Dh
--- exists in bank 0 alone
+-- the cell that an accepted write to an index reaches, where that is one of a plan's: 60h
+-- to 7Fh are 20h to 3Fh (M-2), and 5Dh exists in bank 0 alone
 abbrev pub reached : ℕ → ℕ
 reached i = choose (leb 0x60 i) (at (i - 0x40)) (at i)
 
@@ -64,7 +64,8 @@ kindOf (setPlan f w) = planning f w
 
 -- stored counts and real-time bits: the cells of the three fans' counts, 59h and 5Ah
 abbrev pub readingsOf : State → List ℕ
-readingsOf s = map (λ c. getD (s .registers) c 0) (fanCount 1 ∷ fanCount 2 ∷ fanCount 3 ∷ realTimeStatus1 ∷ realTimeStatus2 ∷ [])
+readingsOf s =
+    map (λ c. getD (s .registers) c 0) (fanCount 1 ∷ fanCount 2 ∷ fanCount 3 ∷ realTimeStatus1 ∷ realTimeStatus2 ∷ [])
 
 -- the fan's real-time bit as a bus read of bank 4 shows it: fans 1 and 2 in 59h, fan 3 in 5Ah. decision D-28
 abbrev pub realTimeBit : State → ℕ → ℕ

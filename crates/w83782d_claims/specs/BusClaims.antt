@@ -14,7 +14,8 @@ use Rattle.sensor.specs.Sensor.{armed}
 use Rattle.sensor.specs.declared.Remote.{Remote}
 use Rattle.sensor.specs.declared.Mark.the-variants.{Armed}
 use Rattle.w83782d_map.specs.Map.{cells, presentAt, writableAt, powerOnAt, keptAt}
-use Rattle.w83782d_map.specs.Cells.{bankSelect, chassisClear, chipId, configuration, deviceId, interruptStatus1, interruptStatus2, realTimeStatus2, vendorId, vidFanDivisor}
+use Rattle.w83782d_map.specs.Cells.{bankSelect, chassisClear, chipId, configuration, deviceId}
+use Rattle.w83782d_map.specs.Cells.{interruptStatus1, interruptStatus2, realTimeStatus2, vendorId, vidFanDivisor}
 use Rattle.w83782d_map.specs.Access.{storedBits}
 use Rattle.w83782d_registers.specs.Registers.{bankOf, reachOf, isCommand, shownOf}
 use Rattle.w83782d_latches.specs.Effects.{latches, remoteOf, releases}
@@ -67,7 +68,8 @@ answers1 =
 pub record AccessAnswers (s : State) (i v : ℕ) : Type 0 where
   pub write1 : eqb (writeOf s i v .answer) 1 ≡ among answers1 (bankOf (s .registers)) i
   pub read1 : eqb (readOf s i .answer) 1 ≡ among answers1 (bankOf (s .registers)) i
-  pub write2 : eqb (writeOf s i v .answer) 2 ≡ (presentAt (reachOf (s .registers) i) && eqb (writableAt (reachOf (s .registers) i)) 0)
+  pub write2 : eqb (writeOf s i v .answer) 2
+      ≡ (presentAt (reachOf (s .registers) i) && eqb (writableAt (reachOf (s .registers) i)) 0)
   pub no-other-write : writeOf s i v .answer < 3
   pub no-other-read : readOf s i .answer < 2
 
@@ -115,8 +117,8 @@ pub record SameLatches (s t : State) : Type 0 where
   pub asserted : (n : ℕ) → 2 ≤ n → n ≤ 3 → remoteIn t n .output .asserted ≡ remoteIn s n .output .asserted
 
 -- ---- an accepted write that is neither a reset nor a chassis clear, to the cell c
--- changes only its own register's writable bits (bit 7 of 40h and 46h, a command, is not stored), gives each of those the
--- byte's bit, and leaves each latch and mark
+-- changes only its own register's writable bits (bit 7 of 40h and 46h, a command, is not
+-- stored), gives each of those the byte's bit, and leaves each latch and mark
 pub record Stores (s t : State) (c v : ℕ) : Type 0 where
   pub elsewhere : (k : ℕ) → k ≢ c → cellIn t k ≡ cellIn s k
   pub kept : (j : ℕ) → j < 8 → isOn (storedBits c) j ≡ false → bit (cellIn t c) j ≡ bit (cellIn s c) j
@@ -132,13 +134,21 @@ pub record Shows (s t : State) (c : ℕ) : Type 0 where
 abbrev pub Stored : State → ℕ → ℕ → Type 0
 Stored s i v =
     writeOf s i v .answer ≡ 0 → isCommand (reachOf (s .registers) i) v ≡ false
-    → Stores s (writeOf s i v .state) (reachOf (s .registers) i) v × Shows s (writeOf s i v .state) (reachOf (s .registers) i)
+    → Stores s (writeOf s i v .state) (reachOf (s .registers) i) v
+    × Shows s (writeOf s i v .state) (reachOf (s .registers) i)
 
 -- the chassis clear changes only the latch, and a write of 46h without bit 7 nothing
 abbrev pub Cleared : State → ℕ → Type 0
-Cleared s v = writeOf s 0x46 v ≡ record { state = state (s .registers) (latches (s .latches .chassis && isOff v 7) (s .latches .sensor1) (s .latches .remote)); answer = 0 }
+Cleared s v =
+    writeOf s 0x46 v
+    ≡ record {
+      state =
+          state (s .registers) (latches (s .latches .chassis && isOff v 7) (s .latches .sensor1) (s .latches .remote));
+      answer = 0;
+    }
 
--- ---- reset, whatever the byte's other bits: the power-on value to everything but 48h, the stored readings and the chassis latch
+-- ---- reset, whatever the byte's other bits: the power-on value to everything but 48h,
+-- the stored readings and the chassis latch
 pub record Resets (s t : State) : Type 0 where
   pub count : length (t .registers) ≡ cells
   pub kept : (c : ℕ) → c < cells → keptAt c ≡ true → cellIn t c ≡ cellIn s c
@@ -148,10 +158,11 @@ pub record Resets (s t : State) : Type 0 where
 abbrev pub Reset : State → ℕ → Type 0
 Reset s v = isOn v 7 ≡ true → (writeOf s 0x40 v .answer ≡ 0) × Resets s (writeOf s 0x40 v .state)
 
--- ---- a read changes nothing but 41h or 42h, cleared with the latch kept, and, in interrupt mode, the OVT output of the
--- sensor whose 50h was read
+-- ---- a read changes nothing but 41h or 42h, cleared with the latch kept, and, in
+-- interrupt mode, the OVT output of the sensor whose 50h was read
 pub record Leaves (s t : State) (c : ℕ) : Type 0 where
-  pub cells : (k : ℕ) → cellIn t k ≡ choose (eqb k c && (eqb c interruptStatus1 || eqb c interruptStatus2)) 0 (cellIn s k)
+  pub cells : (k : ℕ)
+      → cellIn t k ≡ choose (eqb k c && (eqb c interruptStatus1 || eqb c interruptStatus2)) 0 (cellIn s k)
   pub chassis : t .latches .chassis ≡ s .latches .chassis
   pub marks : SameMarks s t
   pub asserted : (n : ℕ) → 2 ≤ n → n ≤ 3
@@ -164,19 +175,22 @@ ReadLeaves s i = readOf s i .answer ≡ 0 → Leaves s (readOf s i .state) (reac
 
 -- 42h and 5Ah: the cell's bits 5, 3-0 and the latch as bit 4
 abbrev pub statusBit : State → ℕ → ℕ → ℕ
-statusBit s c j = choose (eqb j 4) (choose (s .latches .chassis) 1 0) (choose (eqb j 5 || ltb j 4) (bit (cellIn s c) j) 0)
+statusBit s c j =
+    choose (eqb j 4) (choose (s .latches .chassis) 1 0) (choose (eqb j 5 || ltb j 4) (bit (cellIn s c) j) 0)
 
 -- the registers of which a rule says what is shown
 abbrev pub hasRule : ℕ → Bool
 hasRule c =
-    eqb c configuration || eqb c interruptStatus2 || eqb c realTimeStatus2 || eqb c chassisClear || eqb c vidFanDivisor || eqb c deviceId
+    eqb c configuration || eqb c interruptStatus2 || eqb c realTimeStatus2 || eqb c chassisClear || eqb c vidFanDivisor
+    || eqb c deviceId
     || eqb c vendorId
     || eqb c chipId
 
 pub record ShownBytes (s : State) : Type 0 where
   pub read : (i : ℕ) → readOf s i .answer ≡ 0 → readOf s i .byte ≡ shownIn s (reachOf (s .registers) i)
   -- 40h without bit 7
-  pub configuration : (j : ℕ) → j < 8 → bit (shownIn s configuration) j ≡ choose (eqb j 7) 0 (bit (cellIn s configuration) j)
+  pub configuration : (j : ℕ) → j < 8
+      → bit (shownIn s configuration) j ≡ choose (eqb j 7) 0 (bit (cellIn s configuration) j)
   pub status2 : (j : ℕ) → j < 8 → bit (shownIn s interruptStatus2) j ≡ statusBit s interruptStatus2 j
   pub realTime2 : (j : ℕ) → j < 8 → bit (shownIn s realTimeStatus2) j ≡ statusBit s realTimeStatus2 j
   pub clear : shownIn s chassisClear ≡ 0x00

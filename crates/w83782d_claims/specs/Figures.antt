@@ -9,7 +9,8 @@ use Rattle.fan.specs.Search.{planOf}
 use Rattle.fan.specs.Speed.{speedAnswer, speedValue, countSpeed}
 use Rattle.analog.specs.Readings.{readingAnswer, readingValue, millivoltsOf}
 
--- what is asked: a plan for w rpm, the speed of a count and a divisor, the millivolts of a channel, a code and two resistors
+-- what is asked: a plan for w rpm, the speed of a count and a divisor, the millivolts of
+-- a channel, a code and two resistors
 pub data Question : Type 0 where
   plan : ℕ → Question
   speed : ℕ → ℕ → Question
@@ -37,9 +38,13 @@ minus12 = 5
 abbrev pub replyTo : Question → Reply
 replyTo (plan w) =
     record { answer = planAnswer (planOf w); values = pos (planDivisor (planOf w)) ∷ pos (planLimit (planOf w)) ∷ [] }
-replyTo (speed count d) = record { answer = speedAnswer (countSpeed count d); values = pos (speedValue (countSpeed count d)) ∷ [] }
+replyTo (speed count d) =
+    record { answer = speedAnswer (countSpeed count d); values = pos (speedValue (countSpeed count d)) ∷ [] }
 replyTo (volts channel c r5 r6) =
-    record { answer = readingAnswer (millivoltsOf channel c r5 r6); values = readingValue (millivoltsOf channel c r5 r6) ∷ [] }
+    record {
+      answer = readingAnswer (millivoltsOf channel c r5 r6);
+      values = readingValue (millivoltsOf channel c r5 r6) ∷ [];
+    }
 
 infix 4 _⇒_
 abbrev pub _⇒_ : Question → Reply → Figure

@@ -1,5 +1,6 @@
--- What is claimed of a sample, from every state of the monitor and for every sample, refused or not (rules S-1 to S-10, T, I, O).
--- The definitions are those that the contracts cite (w83782d_conditions: Conditions.antt; w83782d_sample: Stored.antt, Sample.antt; w83782d_readings: Outputs.antt).
+-- What is claimed of a sample, from every state of the monitor and for every sample, refused or not
+-- (rules S-1 to S-10, T, I, O). The definitions are those that the contracts cite (w83782d_conditions:
+-- Conditions.antt; w83782d_sample: Stored.antt, Sample.antt; w83782d_readings: Outputs.antt).
 use mathlib.Core.Path.{_≡_}
 use mathlib.Core.Bool.{Bool, true, false, not, _&&_, _||_}
 use mathlib.Core.List.{List, [], _∷_}
@@ -18,7 +19,10 @@ use Rattle.sensor.specs.declared.Output.{Output}
 use Rattle.status.specs.Claims.{UnmaskedBit}
 use Rattle.w83782d_layout.specs.declared.samples.Sample.{Sample}
 use Rattle.w83782d_map.specs.Map.{cells, bankAt, indexAt}
-use Rattle.w83782d_map.specs.Cells.{bankCell, beepControl1, beepControl2, busAddress, configuration, diodeSelection, fanCount, fanLimit, gpoControl, interruptStatus1, interruptStatus2, ovtProperty, pinControl, pwmClock, realTimeStatus1, realTimeStatus2, remoteAddress, sensor1Value, sensorConfiguration, smiMask1, smiMask2, vbatFanDivisor, voltage}
+use Rattle.w83782d_map.specs.Cells.{bankCell, beepControl1, beepControl2, busAddress, configuration, diodeSelection}
+use Rattle.w83782d_map.specs.Cells.{fanCount, fanLimit, gpoControl, interruptStatus1, interruptStatus2, ovtProperty}
+use Rattle.w83782d_map.specs.Cells.{pinControl, pwmClock, realTimeStatus1, realTimeStatus2, remoteAddress, sensor1Value}
+use Rattle.w83782d_map.specs.Cells.{sensorConfiguration, smiMask1, smiMask2, vbatFanDivisor, voltage}
 use Rattle.w83782d_registers.specs.Registers.{reachOf}
 use Rattle.w83782d_latches.specs.Effects.{remoteOf}
 use Rattle.w83782d_bus.specs.Bus.{State, Written, writeOf, readOf}
@@ -77,7 +81,8 @@ pub record Stores (s : State) (x : Sample) : Type 0 where
   pub remote : (n : ℕ) → 2 ≤ n → n ≤ 3 → halvesAt (after s x .registers) (bankCell n) ≡ sampledHalves x n
   pub counts : (f : ℕ) → 1 ≤ f → f ≤ 3 → cellIn (after s x) (fanCount f) ≡ storedCount (s .registers) x f
 
--- S-9: after an accepted sample each real-time bit is its condition (bit 4 of 5Ah is stored as 0, and read as the latch)
+-- S-9: after an accepted sample each real-time bit is its condition (bit 4 of 5Ah is
+-- stored as 0, and read as the latch)
 pub record RealTime (s : State) (x : Sample) : Type 0 where
   pub first : (j : ℕ) → bit (cellIn (after s x) realTimeStatus1) j ≡ flagAt (holdsFor (s .registers) x) firstByte j
   pub second : (j : ℕ) → bit (cellIn (after s x) realTimeStatus2) j ≡ flagAt (holdsFor (s .registers) x) secondByte j
@@ -91,16 +96,22 @@ fanBit f = choose (eqb f 3) 3 (5 + f)
 
 -- an accepted sample rings fan f exactly when its count after division is above its limit
 abbrev pub FanRings : State → Sample → Type 0
-FanRings s x = (f : ℕ) → 1 ≤ f → f ≤ 3 → bit (cellIn (after s x) (fanCell f)) (fanBit f) ≡ flagOf (ltb (cellIn s (fanLimit f)) (storedCount (s .registers) x f))
+FanRings s x =
+    (f : ℕ) → 1 ≤ f → f ≤ 3 → bit (cellIn (after s x) (fanCell f)) (fanBit f)
+    ≡ flagOf (ltb (cellIn s (fanLimit f)) (storedCount (s .registers) x f))
 
 -- ---- status
 
 -- one step of a sensor's status mark and of its OVT output, each from the mark that it has
 unfoldable pub statusFor : State → Sample → ℕ → Status
-statusFor s x n = statusOf (statusMode (s .registers) n) (markOf (s .latches) n) (isHotter (s .registers) x n) (isColder (s .registers) x n)
+statusFor s x n =
+    statusOf (statusMode (s .registers) n) (markOf (s .latches) n) (isHotter (s .registers) x n)
+    (isColder (s .registers) x n)
 
 unfoldable pub outputFor : State → Sample → ℕ → Output
-outputFor s x n = outputOf (outputMode (s .registers) n) (remoteOf (s .latches) n .output) (isHotter (s .registers) x n) (isColder (s .registers) x n)
+outputFor s x n =
+    outputOf (outputMode (s .registers) n) (remoteOf (s .latches) n .output) (isHotter (s .registers) x n)
+    (isColder (s .registers) x n)
 
 -- S-9: voltages and fans latch where their condition is true, temperatures by their step, and no sample the chassis
 abbrev pub latchesFor : State → Sample → Source → Bool
@@ -111,8 +122,10 @@ latchesFor s x chassis = false
 
 -- an accepted sample clears no status bit, and sets exactly those that it latches
 pub record StatusOr (s : State) (x : Sample) : Type 0 where
-  pub first : (j : ℕ) → bit (cellIn (after s x) interruptStatus1) j ≡ max (bit (cellIn s interruptStatus1) j) (flagAt (latchesFor s x) firstByte j)
-  pub second : (j : ℕ) → bit (cellIn (after s x) interruptStatus2) j ≡ max (bit (cellIn s interruptStatus2) j) (flagAt (latchesFor s x) secondByte j)
+  pub first : (j : ℕ) → bit (cellIn (after s x) interruptStatus1) j
+      ≡ max (bit (cellIn s interruptStatus1) j) (flagAt (latchesFor s x) firstByte j)
+  pub second : (j : ℕ) → bit (cellIn (after s x) interruptStatus2) j
+      ≡ max (bit (cellIn s interruptStatus2) j) (flagAt (latchesFor s x) secondByte j)
 
 -- each latch and mark after an accepted sample
 pub record LatchesAfter (s : State) (x : Sample) : Type 0 where
@@ -147,7 +160,8 @@ standbyOf s = writeOf s 0x40 (bitAnd (shownIn s configuration) 0b1111_1110)
 -- that bit changes and nothing else, and SMI is as it was
 pub record Standby (s : State) : Type 0 where
   pub accepted : standbyOf s .answer ≡ 0
-  pub bits : (c j : ℕ) → j < 8 → bit (cellIn (standbyOf s .state) c) j ≡ choose (eqb c configuration && eqb j 0) 0 (bit (cellIn s c) j)
+  pub bits : (c j : ℕ) → j < 8
+      → bit (cellIn (standbyOf s .state) c) j ≡ choose (eqb c configuration && eqb j 0) 0 (bit (cellIn s c) j)
   pub latches : standbyOf s .state .latches ≡ s .latches
   pub stops : isStandby (standbyOf s .state) ≡ true
   pub smi : smiIn (standbyOf s .state) ≡ smiIn s
@@ -177,18 +191,21 @@ pub record Alike (s t : State) : Type 0 where
   pub bits : (c j : ℕ) → c < cells → j < 8 → isOn (ruleless c) j ≡ false → bit (cellIn s c) j ≡ bit (cellIn t c) j
   pub latches : s .latches ≡ t .latches
 
--- a read is answered alike, leaves them alike, OVT released in both or in neither, and shows the same in every other bit
+-- a read is answered alike, leaves them alike, OVT released in both or in neither, and
+-- shows the same in every other bit
 pub record ReadAlike (s t : State) (i : ℕ) : Type 0 where
   pub answer : readOf s i .answer ≡ readOf t i .answer
   pub left : Alike (readOf s i .state) (readOf t i .state)
   pub shown : (j : ℕ) → j < 8 → isOn (ruleless (reachOf (s .registers) i)) j ≡ false
       → bit (readOf s i .byte) j ≡ bit (readOf t i .byte) j
 
--- a sample is answered alike, leaves them alike, and leaves those bits; SMI is the same before and after; and so of reads
+-- a sample is answered alike, leaves them alike, and leaves those bits; SMI is the same
+-- before and after; and so of reads
 pub record StoredOnly (s t : State) (x : Sample) : Type 0 where
   pub answer : sampleOf s x .answer ≡ sampleOf t x .answer
   pub left : Alike (after s x) (after t x)
-  pub stays : (c j : ℕ) → c < cells → j < 8 → isOn (ruleless c) j ≡ true → bit (cellIn (after s x) c) j ≡ bit (cellIn s c) j
+  pub stays : (c j : ℕ) → c < cells → j < 8 → isOn (ruleless c) j ≡ true
+      → bit (cellIn (after s x) c) j ≡ bit (cellIn s c) j
   pub smi : smiIn s ≡ smiIn t
   pub smiAfter : smiIn (after s x) ≡ smiIn (after t x)
   pub reads : (i : ℕ) → ReadAlike s t i

@@ -1,6 +1,6 @@
--- The conditions of a sample's own values, under the limits and divisors in the registers before it (rules S-5 to S-7). They ask
--- for no state, so that what has none, such as the description of a history, can say them too. Rails are numbered 0 to 6,
--- sensors and fans 1 to 3.
+-- The conditions of a sample's own values, under the limits and divisors in the registers before
+-- it (rules S-5 to S-7). They ask for no state, so that what has none, such as the description
+-- of a history, can say them too. Rails are numbered 0 to 6, sensors and fans 1 to 3.
 use mathlib.Core.Bool.{Bool, false, _||_}
 use mathlib.Core.List.{List, map}
 use Prim.Native.Nat.{ℕ}
@@ -29,7 +29,8 @@ abbrev pub sensorLimit : List ℕ → ℕ → ℤ
 sensorLimit rs n = choose (eqb n 1) (signedOf half8 (getD rs sensor1Over 0)) (halvesAt rs (sensorOver (bankCell n)))
 
 abbrev pub hysteresis : List ℕ → ℕ → ℤ
-hysteresis rs n = choose (eqb n 1) (signedOf half8 (getD rs sensor1Hysteresis 0)) (halvesAt rs (sensorHysteresis (bankCell n)))
+hysteresis rs n =
+    choose (eqb n 1) (signedOf half8 (getD rs sensor1Hysteresis 0)) (halvesAt rs (sensorHysteresis (bankCell n)))
 
 -- S-6: above its over limit, below its hysteresis
 unfoldable pub isHotter : List ℕ → Sample → ℕ → Bool

@@ -14,7 +14,8 @@ abbrev still : Comparison
 still = record { mode = Interrupt; above = false; below = false }
 
 abbrev pub nothing : Compared
-nothing = record { first = 0; second = 0; one = still; two = still; three = still; output2 = Interrupt; output3 = Interrupt }
+nothing =
+    record { first = 0; second = 0; one = still; two = still; three = still; output2 = Interrupt; output3 = Interrupt }
 
 abbrev pub comparedIn : List ℕ → Compared
 comparedIn rs = choose (fits rs) (comparedOf rs) nothing

@@ -1,4 +1,5 @@
-// What a sample finds in the registers with the readings stored: rails, fans and temperatures against their limits, and modes.
+// What a sample finds in the registers with the readings stored: rails, fans and
+// temperatures against their limits, and modes.
 ghost use mathlib.Core.Path.{_≡_};
 ghost use mathlib.Core.Bool.{false};
 ghost use mathlib.Core.List.{[], _∷_};
@@ -20,7 +21,7 @@ use sensor::Mode;
 use w83782d_map::CELLS;
 use w83782d_map::FAN_COUNTS;
 use w83782d_map::FAN_LIMITS;
-use w83782d_map::IRQ_OVT;
+use w83782d_map::OVT_PROPERTY;
 use w83782d_map::SENSOR_1;
 use w83782d_map::SENSOR_1_HYSTERESIS;
 use w83782d_map::SENSOR_1_OVER;
@@ -62,7 +63,9 @@ fn half_level_at(s: &[u8], c: usize) -> u16
 
 fn first_byte(s: &[u8]) -> u8
     requires { ⌜ length (now s) ≡ cells ⌝ }
-    ensures { λ r. ⌜ r ≡ word (isOutside (now (s .entry)) 0 ∷ isOutside (now (s .entry)) 1 ∷ isOutside (now (s .entry)) 2 ∷ isOutside (now (s .entry)) 3 ∷ false ∷ false ∷ isSlow (now (s .entry)) 1 ∷ isSlow (now (s .entry)) 2 ∷ []) ⌝ }
+    ensures { λ r. ⌜ r
+        ≡ word (isOutside (now (s .entry)) 0 ∷ isOutside (now (s .entry)) 1 ∷ isOutside (now (s .entry)) 2
+        ∷ isOutside (now (s .entry)) 3 ∷ false ∷ false ∷ isSlow (now (s .entry)) 1 ∷ isSlow (now (s .entry)) 2 ∷ []) ⌝ }
 {
     pack(
         outside(s, 0),
@@ -79,7 +82,9 @@ fn first_byte(s: &[u8]) -> u8
 // The chassis bit, bit 4, is the latch itself and not stored.
 fn second_byte(s: &[u8]) -> u8
     requires { ⌜ length (now s) ≡ cells ⌝ }
-    ensures { λ r. ⌜ r ≡ word (isOutside (now (s .entry)) 4 ∷ isOutside (now (s .entry)) 5 ∷ isOutside (now (s .entry)) 6 ∷ isSlow (now (s .entry)) 3 ∷ false ∷ false ∷ false ∷ false ∷ []) ⌝ }
+    ensures { λ r. ⌜ r
+        ≡ word (isOutside (now (s .entry)) 4 ∷ isOutside (now (s .entry)) 5 ∷ isOutside (now (s .entry)) 6
+        ∷ isSlow (now (s .entry)) 3 ∷ false ∷ false ∷ false ∷ false ∷ []) ⌝ }
 {
     pack(
         outside(s, 4),
@@ -144,7 +149,7 @@ fn compare_remote(s: &[u8], sensor: usize) -> Comparison
     let t = half_level_at(s, bank);
     let over = half_level_at(s, bank + SENSOR_OVER);
     let hysteresis = half_level_at(s, bank + SENSOR_HYSTERESIS);
-    let mode = mode_if(is_on(s[IRQ_OVT], Bit::B6));
+    let mode = mode_if(is_on(s[OVT_PROPERTY], Bit::B6));
     Comparison {
         mode,
         above: over < t,

@@ -34,32 +34,39 @@ sample =
     }
 
 raw : rawValues sample
-    ≡ pos 1 ∷ pos 2 ∷ pos 3 ∷ pos 4 ∷ pos 5 ∷ pos 6 ∷ pos 255 ∷ negsuc 4 ∷ pos 4294967295 ∷ pos 300 ∷ pos 0 ∷ negsuc 255 ∷ pos 7 ∷ []
+    ≡ pos 1 ∷ pos 2 ∷ pos 3 ∷ pos 4 ∷ pos 5 ∷ pos 6 ∷ pos 255 ∷ negsuc 4 ∷ pos 4294967295 ∷ pos 300 ∷ pos 0 ∷ negsuc 255
+    ∷ pos 7 ∷ []
 raw = refl
 
 -- ---- logs, from any state
 module _ (s : State) where
   -- no byte
   empty : reportOf s [] ≡ summary 0 (replicate 39 (pos 0)) (replicate 8 0) (replicate 8 0) 0 0
-  unfolding reportOf logAnswer runTo rowsOf latchedIn figuresOf column picked wrapped lowBits sumOf signedOf bitsOf bytesWithBit
+  unfolding reportOf logAnswer runTo rowsOf latchedIn figuresOf column picked wrapped lowBits sumOf signedOf bitsOf
+      bytesWithBit
   empty = refl
 
   -- a part of a record is 5, and counts nothing
   part : reportOf s (replicate 31 0) ≡ summary 0 (replicate 39 (pos 0)) (replicate 8 0) (replicate 8 0) 5 0
-  unfolding reportOf logAnswer runTo rowsOf latchedIn figuresOf column picked wrapped lowBits sumOf signedOf bitsOf bytesWithBit
+  unfolding reportOf logAnswer runTo rowsOf latchedIn figuresOf column picked wrapped lowBits sumOf signedOf bitsOf
+      bytesWithBit
   part = refl
 
   -- two chassis events: bit 4 of 42h twice, no sample
   chassis : List ℕ
   chassis = 4 ∷ replicate 31 0
 
-  twice : reportOf s (chassis ++ chassis) ≡ summary 0 (replicate 39 (pos 0)) (replicate 8 0) (0 ∷ 0 ∷ 0 ∷ 0 ∷ 2 ∷ 0 ∷ 0 ∷ 0 ∷ []) 0 2
-  unfolding reportOf logAnswer runTo next eventOf decodeOf eventAt wellFormed partAt rowsOf latchedIn figuresOf column picked wrapped lowBits sumOf signedOf bitsOf bytesWithBit bit chassis
+  twice : reportOf s (chassis ++ chassis)
+      ≡ summary 0 (replicate 39 (pos 0)) (replicate 8 0) (0 ∷ 0 ∷ 0 ∷ 0 ∷ 2 ∷ 0 ∷ 0 ∷ 0 ∷ []) 0 2
+  unfolding reportOf logAnswer runTo next eventOf decodeOf eventAt wellFormed partAt rowsOf latchedIn figuresOf column
+      picked wrapped lowBits sumOf signedOf bitsOf bytesWithBit bit chassis
   twice = refl
 
   -- a record of no kind ends it by 5, after the chassis event before it, and what follows is not taken
-  refused : reportOf s (chassis ++ (replicate 32 0 ++ chassis)) ≡ summary 0 (replicate 39 (pos 0)) (replicate 8 0) (0 ∷ 0 ∷ 0 ∷ 0 ∷ 1 ∷ 0 ∷ 0 ∷ 0 ∷ []) 5 1
-  unfolding reportOf logAnswer runTo next eventOf decodeOf eventAt wellFormed partAt rowsOf latchedIn figuresOf column picked wrapped lowBits sumOf signedOf bitsOf bytesWithBit bit chassis
+  refused : reportOf s (chassis ++ (replicate 32 0 ++ chassis))
+      ≡ summary 0 (replicate 39 (pos 0)) (replicate 8 0) (0 ∷ 0 ∷ 0 ∷ 0 ∷ 1 ∷ 0 ∷ 0 ∷ 0 ∷ []) 5 1
+  unfolding reportOf logAnswer runTo next eventOf decodeOf eventAt wellFormed partAt rowsOf latchedIn figuresOf column
+      picked wrapped lowBits sumOf signedOf bitsOf bytesWithBit bit chassis
   refused = refl
 
   -- what a record latches, and which one is a sample
@@ -69,6 +76,7 @@ module _ (s : State) where
   opened : recordLatches s (Event Chassis) zeroSample ≡ statusBits 0 16
   opened = refl
 
-samples : isSample (Event (Write 1 2)) ∷ isSample (Event (Read 1)) ∷ isSample (Event Sample) ∷ isSample (Event Chassis) ∷ isSample (Refused 3) ∷ []
+samples : isSample (Event (Write 1 2)) ∷ isSample (Event (Read 1)) ∷ isSample (Event Sample) ∷ isSample (Event Chassis)
+    ∷ isSample (Refused 3) ∷ []
     ≡ false ∷ false ∷ true ∷ false ∷ false ∷ []
 samples = refl

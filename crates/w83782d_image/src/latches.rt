@@ -1,5 +1,5 @@
-// The flags of an image: the chassis latch, sensor 1's mark, then status mark, OVT mark and asserted of sensors 2 and 3,
-// and the eight spare bytes behind them. A slice that is not an image of 128 bytes stays, and holds the latches of
+// The flags of an image: the chassis latch, sensor 1's mark, then status mark, OVT mark and asserted of sensors 2 and
+// 3, and the eight spare bytes behind them. A slice that is not an image of 128 bytes stays, and holds the latches of
 // power-on. The eight flags go as one number: one by one they were 54 instructions of a call, taken out and put back.
 ghost use mathlib.Core.Path.{_≡_};
 ghost use Rattle.w83782d_image.specs.Image.{latchesIn, heldLatches, flagBytes, spareZeros, putFrom};
@@ -95,7 +95,8 @@ pub fn chassis_in(image: &[u8]) -> bool
 // The flags written as 0 or 1: what a call leaves that changes no latch. The compiler makes one vector of the
 // loop. A slice of another length stays.
 pub fn normalise_flags(image: &mut [u8])
-    ensures { λ r. ⌜ now (image .exit) ≡ putFrom (now (image .entry)) 112 (flagBytes (latchesIn (now (image .entry)))) ⌝ }
+    ensures { λ r. ⌜ now (image .exit)
+        ≡ putFrom (now (image .entry)) 112 (flagBytes (latchesIn (now (image .entry)))) ⌝ }
 {
     if image.len() != IMAGE {
         return;

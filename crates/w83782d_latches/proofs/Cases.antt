@@ -20,7 +20,8 @@ module _ (c v : ℕ) (b : Bool) (e : b ≡ (eqb c configuration && isOn v 7)) wh
   latches-reset l m t f = simp (← e, t, f)
 
   module _ (d : Bool) (f : d ≡ (eqb c chassisClear && isOn v 7)) where
-    pub latches-clear : (l : Latches) → b ≡ false → d ≡ true → latches false (l .sensor1) (l .remote) ≡ writtenLatches l c v
+    pub latches-clear : (l : Latches) → b ≡ false → d ≡ true
+        → latches false (l .sensor1) (l .remote) ≡ writtenLatches l c v
     unfolding writtenLatches
     latches-clear l t g = simp (← e, t, ← f, g)
 
@@ -44,6 +45,7 @@ read-value n h k rs l m c e f =
     ∙ rw e (both (λ n. choose (isInterrupt rs n) (withReleased l n) l ≡ readLatches rs l (bankCell n)) refl refl n h k)
 
 -- and of any other cell
-pub read-other : (rs : List ℕ) (l : Latches) (c : ℕ) → (c ≡ bankCell 2 → ⊥) → (c ≡ bankCell 3 → ⊥) → l ≡ readLatches rs l c
+pub read-other : (rs : List ℕ) (l : Latches) (c : ℕ) → (c ≡ bankCell 2 → ⊥) → (c ≡ bankCell 3 → ⊥)
+    → l ≡ readLatches rs l c
 unfolding readLatches
 read-other rs l c m n = simp (ne-eqb c (bankCell 2) m, ne-eqb c (bankCell 3) n)

@@ -1,10 +1,11 @@
-// What the registers do not hold: the chassis latch and the sensors' marks and outputs, by value, and what power-on, a reset,
-// a write, a read and a chassis event leave of them.
+// What the registers do not hold: the chassis latch and the sensors' marks and outputs, by
+// value, and what power-on, a reset, a write, a read and a chassis event leave of them.
 ghost use mathlib.Core.Path.{_≡_};
 ghost use Prim.Native.Nat.{_≤_};
 ghost use Rattle.bits.specs.Bits.{choose};
 ghost use Rattle.w83782d_registers.specs.Registers.{isInterrupt};
-ghost use Rattle.w83782d_latches.specs.Effects.{powerOnLatches, resetLatches, writtenLatches, withReleased, readLatches, openedLatches};
+ghost use Rattle.w83782d_latches.specs.Effects.{powerOnLatches, resetLatches, writtenLatches};
+ghost use Rattle.w83782d_latches.specs.Effects.{withReleased, readLatches, openedLatches};
 ghost use Rattle.w83782d_latches.specs.Ovt.{shownOvt, ovtOf, OvtClaims};
 use sensor::Mark;
 use sensor::Remote;

@@ -14,7 +14,8 @@ use Rattle.bits.specs.Map.{Row, rowSays}
 use Rattle.bits.proofs.Every.{both, both-left, both-right, every-at, beq-same}
 use Rattle.bits.proofs.ChangeLaws.{and-left}
 use Rattle.bits.proofs.Match.{NoKey, or-either, last-arm}
-use Rattle.w83782d_map.specs.Map.{at, atBank, bankAt, indexAt, cells, rows, keptByReset, presentAt, writableAt, powerOnAt, keptAt}
+use Rattle.w83782d_map.specs.Map.{at, atBank, bankAt, indexAt, cells, rows}
+use Rattle.w83782d_map.specs.Map.{keptByReset, presentAt, writableAt, powerOnAt, keptAt}
 use Rattle.w83782d_map.specs.Cells.{chassisClear, configuration}
 use Rattle.w83782d_map.specs.Access.{writeAnswer, storedBits}
 
@@ -47,18 +48,22 @@ module _ (c : ℕ) (h : c < cells) where
 
   pub present-rows : present c ≡ presentAt c
   unfolding asRows
-  present-rows = beq-same (present c) (presentAt c) (both-left (presentSame c) (both (unwritableSame c) (keptSame c)) as-rows)
+  present-rows =
+      beq-same (present c) (presentAt c) (both-left (presentSame c) (both (unwritableSame c) (keptSame c)) as-rows)
 
   unwritable-rows : unwritable c ≡ (presentAt c && eqb (writableAt c) 0)
   unfolding asRows
   unwritable-rows =
       beq-same (unwritable c) (presentAt c && eqb (writableAt c) 0)
-      (both-left (unwritableSame c) (keptSame c) (both-right (presentSame c) (both (unwritableSame c) (keptSame c)) as-rows))
+      (both-left (unwritableSame c) (keptSame c)
+      (both-right (presentSame c) (both (unwritableSame c) (keptSame c)) as-rows))
 
   kept-rows : kept c ≡ keptAt c
   unfolding asRows
   kept-rows =
-      beq-same (kept c) (keptAt c) (both-right (unwritableSame c) (keptSame c) (both-right (presentSame c) (both (unwritableSame c) (keptSame c)) as-rows))
+      beq-same (kept c) (keptAt c)
+      (both-right (unwritableSame c) (keptSame c)
+      (both-right (presentSame c) (both (unwritableSame c) (keptSame c)) as-rows))
 
 -- ---- the functions of a cell, by their cases
 pub present-out : (c : ℕ) → cells ≤ c → false ≡ presentAt c
@@ -91,14 +96,16 @@ pub answer-absent : (c : ℕ) (r : Bool) → c < cells → r ≡ present c → n
 unfolding writeAnswer
 answer-absent c r h e f = simp (← present-rows c h, ← e, not-true r f)
 
-pub answer-read-only : (c : ℕ) (r u : Bool) → c < cells → r ≡ present c → not r ≡ false → u ≡ unwritable c → u ≡ true → 2 ≡ writeAnswer c
+pub answer-read-only : (c : ℕ) (r u : Bool) → c < cells → r ≡ present c → not r ≡ false → u ≡ unwritable c → u ≡ true
+    → 2 ≡ writeAnswer c
 unfolding writeAnswer
 answer-read-only c r u h e f g k =
     let p : presentAt c ≡ true = sym (present-rows c h) ∙ sym e ∙ not-false r f in
     let w : eqb (writableAt c) 0 ≡ true = rw p at (sym (unwritable-rows c h) ∙ sym g ∙ k) in
     simp (p, w)
 
-pub answer-accepted : (c : ℕ) (r u : Bool) → c < cells → r ≡ present c → not r ≡ false → u ≡ unwritable c → u ≡ false → 0 ≡ writeAnswer c
+pub answer-accepted : (c : ℕ) (r u : Bool) → c < cells → r ≡ present c → not r ≡ false → u ≡ unwritable c → u ≡ false
+    → 0 ≡ writeAnswer c
 unfolding writeAnswer
 answer-accepted c r u h e f g k =
     let p : presentAt c ≡ true = sym (present-rows c h) ∙ sym e ∙ not-false r f in
@@ -121,10 +128,12 @@ present-cell c e = ltb-true c cells (and-left (ltb c cells) _ e)
 abbrev pub storedKeys : List (List ℕ)
 storedKeys =
     (atBank 2 0x54 ∷ atBank 2 0x56 ∷ []) ∷ (atBank 1 0x54 ∷ atBank 1 0x56 ∷ []) ∷ (atBank 2 0x53 ∷ atBank 2 0x55 ∷ [])
-    ∷ (atBank 1 0x53 ∷ atBank 1 0x55 ∷ []) ∷ (atBank 1 0x52 ∷ atBank 2 0x52 ∷ []) ∷ (at 0x5D ∷ []) ∷ (at 0x5A ∷ at 0x5F ∷ [])
+    ∷ (atBank 1 0x53 ∷ atBank 1 0x55 ∷ []) ∷ (atBank 1 0x52 ∷ atBank 2 0x52 ∷ []) ∷ (at 0x5D ∷ [])
+    ∷ (at 0x5A ∷ at 0x5F ∷ [])
     ∷ (at 0x5B ∷ at 0x5E ∷ []) ∷ (at 0x59 ∷ []) ∷ (at 0x57 ∷ []) ∷ (at 0x4E ∷ []) ∷ (at 0x4C ∷ []) ∷ (at 0x4B ∷ [])
     ∷ (at 0x48 ∷ at 0x5C ∷ []) ∷ (at 0x47 ∷ []) ∷ (at 0x44 ∷ []) ∷ (at 0x43 ∷ at 0x4A ∷ at 0x4D ∷ at 0x56 ∷ [])
-    ∷ (at 0x40 ∷ []) ∷ (at 0x3A ∷ at 0x3C ∷ []) ∷ (at 0x39 ∷ at 0x3B ∷ at 0x3D ∷ []) ∷ (at 0x34 ∷ at 0x36 ∷ at 0x38 ∷ [])
+    ∷ (at 0x40 ∷ []) ∷ (at 0x3A ∷ at 0x3C ∷ []) ∷ (at 0x39 ∷ at 0x3B ∷ at 0x3D ∷ [])
+    ∷ (at 0x34 ∷ at 0x36 ∷ at 0x38 ∷ [])
     ∷ (at 0x33 ∷ at 0x35 ∷ at 0x37 ∷ []) ∷ (at 0x2C ∷ at 0x2E ∷ at 0x30 ∷ at 0x32 ∷ [])
     ∷ (at 0x2B ∷ at 0x2D ∷ at 0x2F ∷ at 0x31 ∷ [])
     ∷ []
@@ -138,7 +147,8 @@ no-row : (f : Row → ℕ) (b i : ℕ) (rs : List Row) → T (belowAlias rs) →
 unfolding belowAlias
 no-row f b i [] t h = refl
 no-row f b i (r ∷ rs) t h =
-    let l : r .span .last < 0x60 = ltb→lt (r .span .last) 0x60 (both-left (ltb (r .span .last) 0x60) (belowAlias rs) t) in
+    let l : r .span .last < 0x60 =
+    ltb→lt (r .span .last) 0x60 (both-left (ltb (r .span .last) 0x60) (belowAlias rs) t) in
     let n : leb i (r .span .last) ≡ false = lt-leb i (r .span .last) (omega arith) in
     simp (n, and-false, no-row f b i rs (both-right (ltb (r .span .last) 0x60) (belowAlias rs) t) h)
 
@@ -189,8 +199,10 @@ clear-stores-none = refl
 
 abbrev pub powerKeys : List (List ℕ)
 powerKeys =
-    (atBank 1 0x55 ∷ atBank 2 0x55 ∷ []) ∷ (atBank 1 0x53 ∷ atBank 2 0x53 ∷ []) ∷ (at 0x5C ∷ []) ∷ (at 0x5A ∷ at 0x5F ∷ [])
-    ∷ (at 0x5B ∷ at 0x5E ∷ []) ∷ (at 0x59 ∷ []) ∷ (at 0x58 ∷ []) ∷ (at 0x4E ∷ at 0x57 ∷ []) ∷ (at 0x4D ∷ []) ∷ (at 0x4B ∷ [])
+    (atBank 1 0x55 ∷ atBank 2 0x55 ∷ []) ∷ (atBank 1 0x53 ∷ atBank 2 0x53 ∷ []) ∷ (at 0x5C ∷ [])
+    ∷ (at 0x5A ∷ at 0x5F ∷ [])
+    ∷ (at 0x5B ∷ at 0x5E ∷ []) ∷ (at 0x59 ∷ []) ∷ (at 0x58 ∷ []) ∷ (at 0x4E ∷ at 0x57 ∷ []) ∷ (at 0x4D ∷ [])
+    ∷ (at 0x4B ∷ [])
     ∷ (at 0x49 ∷ []) ∷ (at 0x48 ∷ []) ∷ (at 0x47 ∷ []) ∷ (at 0x40 ∷ at 0x4A ∷ at 0x4C ∷ [])
     ∷ []
 

@@ -29,8 +29,8 @@ sensor1Hysteresis = at 0x3A
 abbrev pub fanLimit : ℕ → ℕ
 fanLimit f = at 0x3A + f
 
--- ---- sensors 2 and 3: seven cells from 50h of the sensor's bank on. Its value (50h, 51h), hysteresis (53h, 54h) and over
--- limit (55h, 56h) are named from the first of them by Limits.antt (limits)
+-- ---- sensors 2 and 3: seven cells from 50h of the sensor's bank on. Its value (50h, 51h), hysteresis
+-- (53h, 54h) and over limit (55h, 56h) are named from the first of them by Limits.antt (limits)
 abbrev pub bankCell : ℕ → ℕ
 bankCell n = choose (eqb n 2) (atBank 1 0x50) (atBank 2 0x50)
 

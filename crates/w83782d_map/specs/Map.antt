@@ -1,5 +1,5 @@
--- The register map (rule M-1): a row for each row of the requirements paper, in its order, with the data sheet's power-on values.
--- Lay the paper beside it: each comment names the row that the lines under it carry.
+-- The register map (rule M-1): a row for each row of the requirements paper, in its order, with the data
+-- sheet's power-on values. Lay the paper beside it: each comment names the row that the lines under it carry.
 use mathlib.Core.Bool.{Bool, true, false, _&&_}
 use mathlib.Core.List.{List, [], _∷_}
 use Prim.Native.Nat.{ℕ, _+_, _-_}
@@ -15,7 +15,8 @@ none = 0x00
 abbrev all : ℕ
 all = 0xFF
 
--- First and last index, writable bits, power-on. A row from 50h up that names no bank is in bank 0; what is in no row is reserved.
+-- First and last index, writable bits, power-on. A row from 50h up that names no bank is
+-- in bank 0; what is in no row is reserved.
 unfoldable pub rows : List Row
 rows =
     -- 20h-26h: VCOREA, VINR0, +3.3, +5, +12, -12, -5; writable: none
@@ -121,7 +122,9 @@ abbrev pub bankAt : ℕ → ℕ
 bankAt c = choose (ltb c 64) 0 (choose (ltb c 80) 1 (choose (ltb c 96) 2 4))
 
 abbrev pub indexAt : ℕ → ℕ
-indexAt c = choose (ltb c 64) (0x20 + c) (choose (ltb c 80) (0x50 + (c - 64)) (choose (ltb c 96) (0x50 + (c - 80)) (0x50 + (c - 96))))
+indexAt c =
+    choose (ltb c 64) (0x20 + c)
+    (choose (ltb c 80) (0x50 + (c - 64)) (choose (ltb c 96) (0x50 + (c - 80)) (0x50 + (c - 96))))
 
 -- ---- what the rows say of a cell
 unfoldable pub presentAt : ℕ → Bool

@@ -1,5 +1,5 @@
-// The register map of the W83782D: named cells, sets of cells and values by cell, and what the rows say of a cell: whether it is
-// a register, the answer to a write, the bits it stores, its power-on value, whether a reset keeps it.
+// The register map of the W83782D: named cells, sets of cells and values by cell, and what the rows say of a cell:
+// whether it is a register, the answer to a write, the bits it stores, its power-on value, whether a reset keeps it.
 ghost use mathlib.Core.Path.{_≡_};
 ghost use Rattle.w83782d_map.specs.Map.{presentAt, powerOnAt, keptAt};
 ghost use Rattle.w83782d_map.specs.Access.{writeAnswer, storedBits};
@@ -15,6 +15,18 @@ pub const CELLS: usize = 112;
 // The code of rail i is at VCOREA + i, its limits at VCOREA_HIGH + 2i and VCOREA_LOW + 2i; the count of fan f is at
 // FAN_COUNTS + f, its limit at FAN_LIMITS + f.
 pub const VCOREA: usize = 0x20 - 0x20;
+
+pub const VINR0: usize = 0x21 - 0x20;
+
+pub const PLUS_3_3: usize = 0x22 - 0x20;
+
+pub const PLUS_5: usize = 0x23 - 0x20;
+
+pub const PLUS_12: usize = 0x24 - 0x20;
+
+pub const MINUS_12: usize = 0x25 - 0x20;
+
+pub const MINUS_5: usize = 0x26 - 0x20;
 
 pub const SENSOR_1: usize = 0x27 - 0x20;
 
@@ -82,7 +94,7 @@ const REMOTE_ADDRESS: usize = 0x4a - 0x20;
 
 pub const PIN_CONTROL: usize = 0x4b - 0x20;
 
-pub const IRQ_OVT: usize = 0x4c - 0x20;
+pub const OVT_PROPERTY: usize = 0x4c - 0x20;
 
 const GPO_CONTROL: usize = 0x4d - 0x20;
 
@@ -205,7 +217,7 @@ pub fn stored_bits(cell: usize) -> u8
         VID_FAN_DIVISOR => 0b1111_0000,
         BUS_ADDRESS | PWM_CLOCK => 0b0111_1111,
         PIN_CONTROL => 0b1111_1100,
-        IRQ_OVT => 0b0101_1100,
+        OVT_PROPERTY => 0b0101_1100,
         BANK_SELECT => 0b1000_0111,
         BEEP_CONTROL_2 => 0b1011_1111,
         DIODE_SELECTION => 0b0111_0000,
@@ -226,7 +238,7 @@ pub fn power_on_byte(cell: usize) -> u8
     ensures { λ r. ⌜ r ≡ powerOnAt cell ⌝ }
 {
     match cell {
-        CONFIGURATION | REMOTE_ADDRESS | IRQ_OVT => 0x01,
+        CONFIGURATION | REMOTE_ADDRESS | OVT_PROPERTY => 0x01,
         VID_FAN_DIVISOR => 0x50,
         BUS_ADDRESS => 0x2d,
         DEVICE_ID => 0x02,

@@ -9,7 +9,8 @@ use lib.Text.{eqt}
 use Rattle.bits.proofs.Every.{same-tests}
 use Rattle.text.specs.Text.{ascii, Put}
 use Rattle.w83782d_map.specs.Map.{rows, bankAt, indexAt, presentAt}
-use Rattle.w83782d_names.specs.Names.{noRegister, find, readingNames, controlNames, bank0Names, bank1Names, bank2Names, bank4Names}
+use Rattle.w83782d_names.specs.Names.{noRegister, find, readingNames, controlNames}
+use Rattle.w83782d_names.specs.Names.{bank0Names, bank1Names, bank2Names, bank4Names}
 use Rattle.w83782d_names.specs.Names.{banked, nameIn, nameOf, Names}
 use Rattle.w83782d_names.specs.Rows.{sensorRows, sensorName}
 use Rattle.w83782d_names.proofs.Tables.{same-from, put-same}
@@ -73,12 +74,24 @@ module _ (o p : List ℕ) (at m b i : ℕ) where
           pub put-again : i < 0x80 → Put o at (ascii (find readingNames (i - 0x40))) p m → Put o at (nameOf b i) p m
           unfolding nameOf nameIn
           put-again h f =
-              rw (le-ltb i 0x20 from20, le-ltb i 0x40 from40, le-ltb i 0x50 from50, le-ltb i 0x60 from60, lt-ltb i 0x80 h) f
+              rw (
+                le-ltb i 0x20 from20,
+                le-ltb i 0x40 from40,
+                le-ltb i 0x50 from50,
+                le-ltb i 0x60 from60,
+                lt-ltb i 0x80 h,
+              ) f
 
           pub put-above : 0x80 ≤ i → Put o at (ascii noRegister) p m → Put o at (nameOf b i) p m
           unfolding nameOf nameIn
           put-above h f =
-              rw (le-ltb i 0x20 from20, le-ltb i 0x40 from40, le-ltb i 0x50 from50, le-ltb i 0x60 from60, le-ltb i 0x80 h) f
+              rw (
+                le-ltb i 0x20 from20,
+                le-ltb i 0x40 from40,
+                le-ltb i 0x50 from50,
+                le-ltb i 0x60 from60,
+                le-ltb i 0x80 h,
+              ) f
 
 pub names : Names
 unfolding presentAt rows nameIn banked readingNames controlNames bank0Names bank1Names bank2Names bank4Names

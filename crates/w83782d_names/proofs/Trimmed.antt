@@ -53,7 +53,12 @@ module _ (t : List ℕ) (from to : ℕ) where
   module _ (end : ℕ) (w : Within t from to end) where
     pub within-less : from < end → to ≤ length t → getD t (end - 1) 0 ≡ 32 → Within t from to (end - 1)
     within-less h k s =
-        record { above = omega arith; below = omega arith; same = sym (last-space t from end h (omega arith) s) ∙ w .same }
+        record {
+          above =
+              omega arith;
+          below = omega arith;
+          same = sym (last-space t from end h (omega arith) s) ∙ w .same;
+        }
 
     pub end-at : from < end → to ≤ length t → (getD t (end - 1) 0 ≡ 32 → ⊥) → EndOf t from to end
     end-at h k s =

@@ -1,10 +1,11 @@
 // The data sheet's names of the registers, put into a lent buffer. A table is one literal with a row for each index, a
-// name and spaces up to the table's width. A check takes such a literal at once; a match with a put in each arm takes it
-// nearly half a second for each of the 71 names.
+// name and spaces up to the table's width. A check takes such a literal at once; a match
+// with a put in each arm takes it nearly half a second for each of the 71 names.
 ghost use Prim.Native.Nat.{_+_, _*_, _≤_, _<_};
 ghost use lib.ListN.{length};
 ghost use Rattle.text.specs.Text.{ascii, Put};
-ghost use Rattle.w83782d_names.specs.Names.{find, readingNames, controlNames, bank0Names, bank4Names, banked, nameOf, Names};
+ghost use Rattle.w83782d_names.specs.Names.{find, readingNames, controlNames, bank0Names};
+ghost use Rattle.w83782d_names.specs.Names.{bank4Names, banked, nameOf, Names};
 ghost use Rattle.w83782d_names.specs.Rows.{rowOf, trimmed, EndOf, sensorName};
 use text::put_bytes;
 

@@ -31,7 +31,9 @@ module _ (rs : List ℕ) (l : Latches) (f w : ℕ) where
     unfolding setPlanOf
     no-fan-above h k = simp (eq-eqb (length rs) cells n, le-ltb f 1 h, lt-ltb 3 f k)
 
-    pub set : (ts : List ℕ) (a : ℕ) (p : Field) (q : Planned) → 1 ≤ f → f ≤ 3 → placesOf p ≡ divisorPlaces f → q ≡ planOf w
-        → ts ≡ plannedRegisters rs (fanAt (fanLimit f) (placesOf p)) q → a ≡ planAnswer q → written (state ts l) a ≡ sized rs l (setPlanOf (state rs l) f w)
+    pub set : (ts : List ℕ) (a : ℕ) (p : Field) (q : Planned) → 1 ≤ f → f ≤ 3 → placesOf p ≡ divisorPlaces f
+        → q ≡ planOf w
+        → ts ≡ plannedRegisters rs (fanAt (fanLimit f) (placesOf p)) q → a ≡ planAnswer q
+        → written (state ts l) a ≡ sized rs l (setPlanOf (state rs l) f w)
     unfolding setPlanOf
     set ts a p q h k g e t b = simp (eq-eqb (length rs) cells n, le-ltb f 1 h, le-ltb 3 f k) (rw (t, b, g, e))

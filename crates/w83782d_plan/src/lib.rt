@@ -12,10 +12,11 @@ use w83782d_map::CELLS;
 use w83782d_map::FAN_LIMITS;
 use w83782d_store::divisor_field;
 
-// An alarm for a fan, 1 to 3, at a speed of 1 to 1,350,000 turns a minute. Refused as 7 or 6 it leaves registers and latches;
-// a slice that is not of 112 cells is refused as 8.
+// An alarm for a fan, 1 to 3, at a speed of 1 to 1,350,000 turns a minute. Refused as 7
+// or 6 it leaves registers and latches; a slice that is not of 112 cells is refused as 8.
 pub fn set_plan_in(s: &mut [u8], l: Latches, fan: u8, rpm: u32) -> Outcome
-    ensures { λ r. ⌜ outcomeIn (now (s .exit)) r ≡ sized (now (s .entry)) l (setPlanOf (state (now (s .entry)) l) fan rpm) ⌝ }
+    ensures { λ r. ⌜ outcomeIn (now (s .exit)) r
+        ≡ sized (now (s .entry)) l (setPlanOf (state (now (s .entry)) l) fan rpm) ⌝ }
 {
     if s.len() != CELLS {
         return Outcome {

@@ -1,6 +1,5 @@
--- The answers of the readings: of the registers a speed by its test, temperatures and duties number by number; of any slice by
--- its length.
--- Assumes nothing.
+-- The answers of the readings: of the registers a speed by its test, temperatures and
+-- duties number by number; of any slice by its length. Assumes nothing.
 use mathlib.Core.Path.{_≡_, refl}
 use mathlib.Core.Bool.{Bool, true, false}
 use mathlib.Core.List.{List}
@@ -28,7 +27,9 @@ use Rattle.w83782d_readings.specs.declared.Temperature.{Temperature}
 use Rattle.w83782d_readings.specs.declared.Temperature.the-variants as temperature
 use Rattle.w83782d_readings.specs.declared.Duty.{Duty}
 use Rattle.w83782d_readings.specs.declared.Duty.the-variants as duty
-use Rattle.w83782d_readings.specs.Readings.{temperatureAnswer, temperatureValue, dutyAnswer, dutyValue, voltageAt, speedAt, temperatureAt, dutyAt, voltageOf, speedOf, temperatureOf, dutyOf}
+use Rattle.w83782d_readings.specs.Readings.{temperatureAnswer, temperatureValue, dutyAnswer, dutyValue}
+use Rattle.w83782d_readings.specs.Readings.{voltageAt, speedAt, temperatureAt, dutyAt}
+use Rattle.w83782d_readings.specs.Readings.{voltageOf, speedOf, temperatureOf, dutyOf}
 use Rattle.w83782d_readings.specs.Claims.{sizedAnswer, answerTo, ReadingClaims}
 
 -- ---- speeds: a count's own reading is never refused
@@ -45,7 +46,9 @@ speed-at : (rs : List ℕ) (f : ℕ) → fan.speedAnswer (speedAt rs f) ≡ answ
 unfolding speedAt
 speed-at rs f = go (isBeyond 3 f)
   where
-    go : (t : Bool) → fan.speedAnswer (choose t speed.Refused (fan.countSpeed (getD rs (fanCount f) 0) (valueOf (divisorOf rs f)))) ≡ choose t 7 0
+    go : (t : Bool)
+        → fan.speedAnswer (choose t speed.Refused (fan.countSpeed (getD rs (fanCount f) 0) (valueOf (divisorOf rs f))))
+        ≡ choose t 7 0
     go true = refl
     go false = never (getD rs (fanCount f) 0) (valueOf (divisorOf rs f))
 
@@ -58,7 +61,13 @@ temperature-at rs (suc (suc zero)) = refl
 temperature-at rs (suc (suc (suc zero))) = refl
 temperature-at rs (suc (suc (suc (suc k)))) =
     let n = suc (suc (suc (suc k))) in
-    simp (le-ltb n 1 (omega arith), lt-ltb 3 n (omega arith), ne-eqb n 1 (λ e. omega arith), ne-eqb n 2 (λ e. omega arith), ne-eqb n 3 (λ e. omega arith))
+    simp (
+      le-ltb n 1 (omega arith),
+      lt-ltb 3 n (omega arith),
+      ne-eqb n 1 (λ e. omega arith),
+      ne-eqb n 2 (λ e. omega arith),
+      ne-eqb n 3 (λ e. omega arith),
+    )
 
 duty-at : (rs : List ℕ) (n : ℕ) → dutyAnswer (dutyAt rs n) ≡ answerTo 4 n
 unfolding dutyAt
@@ -69,25 +78,38 @@ duty-at rs (suc (suc (suc zero))) = refl
 duty-at rs (suc (suc (suc (suc zero)))) = refl
 duty-at rs (suc (suc (suc (suc (suc k))))) =
     let n = suc (suc (suc (suc (suc k)))) in
-    simp (le-ltb n 1 (omega arith), lt-ltb 4 n (omega arith), ne-eqb n 1 (λ e. omega arith), ne-eqb n 2 (λ e. omega arith), ne-eqb n 3 (λ e. omega arith), ne-eqb n 4 (λ e. omega arith))
+    simp (
+      le-ltb n 1 (omega arith),
+      lt-ltb 4 n (omega arith),
+      ne-eqb n 1 (λ e. omega arith),
+      ne-eqb n 2 (λ e. omega arith),
+      ne-eqb n 3 (λ e. omega arith),
+      ne-eqb n 4 (λ e. omega arith),
+    )
 
 -- ---- any slice: 8 before these
-sized-answer : {A : Type 0} (number : A → ℕ) (t : Bool) (x y : A) (a : ℕ) → number x ≡ a → number y ≡ 8 → number (choose t x y) ≡ choose t a 8
+sized-answer : {A : Type 0} (number : A → ℕ) (t : Bool) (x y : A) (a : ℕ) → number x ≡ a → number y ≡ 8
+    → number (choose t x y) ≡ choose t a 8
 sized-answer number true x y a e f = e
 sized-answer number false x y a e f = f
 
 module _ (rs : List ℕ) (n : ℕ) where
   voltage-answer : (r5 r6 : ℕ) → readingAnswer (voltageOf rs n r5 r6) ≡ sizedAnswer rs (answerFor n r5 r6)
   unfolding voltageOf
-  voltage-answer r5 r6 = sized-answer readingAnswer (fits rs) (voltageAt rs n r5 r6) reading.WrongLength (answerFor n r5 r6) (answers-hold .exactly n (getD rs (voltage n) 0) r5 r6) refl
+  voltage-answer r5 r6 =
+      sized-answer readingAnswer (fits rs) (voltageAt rs n r5 r6) reading.WrongLength (answerFor n r5 r6)
+      (answers-hold .exactly n (getD rs (voltage n) 0) r5 r6) refl
 
   speed-answer : fan.speedAnswer (speedOf rs n) ≡ sizedAnswer rs (answerTo 3 n)
   unfolding speedOf
-  speed-answer = sized-answer fan.speedAnswer (fits rs) (speedAt rs n) speed.WrongLength (answerTo 3 n) (speed-at rs n) refl
+  speed-answer =
+      sized-answer fan.speedAnswer (fits rs) (speedAt rs n) speed.WrongLength (answerTo 3 n) (speed-at rs n) refl
 
   temperature-answer : temperatureAnswer (temperatureOf rs n) ≡ sizedAnswer rs (answerTo 3 n)
   unfolding temperatureOf
-  temperature-answer = sized-answer temperatureAnswer (fits rs) (temperatureAt rs n) temperature.WrongLength (answerTo 3 n) (temperature-at rs n) refl
+  temperature-answer =
+      sized-answer temperatureAnswer (fits rs) (temperatureAt rs n) temperature.WrongLength (answerTo 3 n)
+      (temperature-at rs n) refl
 
   duty-answer : dutyAnswer (dutyOf rs n) ≡ sizedAnswer rs (answerTo 4 n)
   unfolding dutyOf

@@ -18,15 +18,17 @@ use Rattle.fan.specs.declared.Speed.the-variants as speed
 use Rattle.analog.specs.Readings.{millivoltsOf, VoltageAnswers}
 use Rattle.numbers.specs.TwosComplement.{TwosComplement}
 use Rattle.analog.specs.Temperature.{NineBits}
+use Rattle.limits.specs.Limits.{lowByte}
 use Rattle.analog.specs.Pwm.{pwmParts}
 use Rattle.analog.specs.declared.voltages.Reading.{Reading}
 use Rattle.analog.specs.declared.voltages.Reading.the-variants as reading
 use Rattle.w83782d_map.specs.Map.{cells}
 use Rattle.w83782d_store.specs.Stored.{divisorPlaces}
-use Rattle.w83782d_map.specs.Cells.{fanCount, voltage}
+use Rattle.w83782d_map.specs.Cells.{bankCell, fanCount, pwmDuty1, pwmDuty2, pwmDuty3, pwmDuty4, sensor1Value, voltage}
 use Rattle.w83782d_readings.specs.declared.Temperature.the-variants as temperature
 use Rattle.w83782d_readings.specs.declared.Duty.the-variants as duty
-use Rattle.w83782d_readings.specs.Readings.{voltageOf, speedAt, speedOf, halfDegrees, temperatureAt, temperatureOf, dutyAt, dutyOf}
+use Rattle.w83782d_readings.specs.Readings.{voltageOf, speedAt, speedOf, halfDegrees}
+use Rattle.w83782d_readings.specs.Readings.{temperatureAt, temperatureOf, dutyAt, dutyOf}
 
 -- ---- a slice of another length
 module _ (rs : List ℕ) (w : length rs ≡ cells → ⊥) where
@@ -47,10 +49,12 @@ module _ (rs : List ℕ) (w : length rs ≡ cells → ⊥) where
   duty-short n = simp (ne-eqb (length rs) cells w)
 
 -- ---- the registers
-pub voltage-read : (rs : List ℕ) (channel code r5 r6 : ℕ) (m : Reading) → length rs ≡ cells → code ≡ getD rs (voltage channel) 0 → (m ≡ millivoltsOf channel code r5 r6) × VoltageAnswers
+pub voltage-read : (rs : List ℕ) (channel code r5 r6 : ℕ) (m : Reading) → length rs ≡ cells
+    → code ≡ getD rs (voltage channel) 0 → (m ≡ millivoltsOf channel code r5 r6) × VoltageAnswers
     → m ≡ voltageOf rs channel r5 r6
 unfolding voltageOf
-voltage-read rs channel code r5 r6 m w e f = simp (eq-eqb (length rs) cells w) (f .0 ∙ ap (λ (c : ℕ). millivoltsOf channel c r5 r6) e)
+voltage-read rs channel code r5 r6 m w e f =
+    simp (eq-eqb (length rs) cells w) (f .0 ∙ ap (λ (c : ℕ). millivoltsOf channel c r5 r6) e)
 
 module _ (rs : List ℕ) (f : ℕ) (w : length rs ≡ cells) where
   pub no-fan-0 : f < 1 → speed.Refused ≡ speedOf rs f
@@ -61,45 +65,61 @@ module _ (rs : List ℕ) (f : ℕ) (w : length rs ≡ cells) where
   unfolding speedOf speedAt
   no-fan-4 h k = simp (eq-eqb (length rs) cells w, le-ltb f 1 h, lt-ltb 3 f k)
 
-  pub fan-read : (p : Field) (d : Divisor) (n : ℕ) (r : Speed) → 1 ≤ f → f ≤ 3 → placesOf p ≡ divisorPlaces f → d ≡ divisorAt rs (placesOf p) → n ≡ getD rs (fanCount f) 0
+  pub fan-read : (p : Field) (d : Divisor) (n : ℕ) (r : Speed) → 1 ≤ f → f ≤ 3 → placesOf p ≡ divisorPlaces f
+      → d ≡ divisorAt rs (placesOf p) → n ≡ getD rs (fanCount f) 0
       → r ≡ fan.countSpeed n (valueOf d) → r ≡ speedOf rs f
   unfolding speedOf speedAt
   fan-read p d n r h k ep ed en er =
-      simp (eq-eqb (length rs) cells w, le-ltb f 1 h, le-ltb 3 f k) (er ∙ ap₂ (λ (x : ℕ) (y : Divisor). fan.countSpeed x (valueOf y)) en (ed ∙ ap (divisorAt rs) ep))
+      simp (eq-eqb (length rs) cells w, le-ltb f 1 h, le-ltb 3 f k)
+      (er ∙ ap₂ (λ (x : ℕ) (y : Divisor). fan.countSpeed x (valueOf y)) en (ed ∙ ap (divisorAt rs) ep))
 
 module _ (rs : List ℕ) (n : ℕ) (w : length rs ≡ cells) where
-  pub sensor-1 : (h : ℕ) (z : ℤ) → n ≡ 1 → h ≡ getD rs 7 0 → (z ≡ halfDegrees h 0) × TwosComplement × NineBits → temperature.HalfDegrees z ≡ temperatureOf rs n
+  pub sensor-1 : (h : ℕ) (z : ℤ) → n ≡ 1 → h ≡ getD rs sensor1Value 0
+      → (z ≡ halfDegrees h 0) × TwosComplement × NineBits
+      → temperature.HalfDegrees z ≡ temperatureOf rs n
   unfolding temperatureOf temperatureAt
-  sensor-1 h z e f g = simp (eq-eqb (length rs) cells w, e) (ap temperature.HalfDegrees (g .0 ∙ ap (λ (x : ℕ). halfDegrees x 0) f))
+  sensor-1 h z e f g =
+      simp (eq-eqb (length rs) cells w, e) (ap temperature.HalfDegrees (g .0 ∙ ap (λ (x : ℕ). halfDegrees x 0) f))
 
-  pub sensor-2 : (h l : ℕ) (z : ℤ) → n ≡ 2 → h ≡ getD rs 64 0 → l ≡ getD rs 65 0 → (z ≡ halfDegrees h l) × TwosComplement × NineBits → temperature.HalfDegrees z ≡ temperatureOf rs n
+  pub sensor-2 : (h l : ℕ) (z : ℤ) → n ≡ 2 → h ≡ getD rs (bankCell 2) 0 → l ≡ getD rs (lowByte (bankCell 2)) 0
+      → (z ≡ halfDegrees h l) × TwosComplement × NineBits → temperature.HalfDegrees z ≡ temperatureOf rs n
   unfolding temperatureOf temperatureAt
-  sensor-2 h l z e f k g = simp (eq-eqb (length rs) cells w, e) (ap temperature.HalfDegrees (g .0 ∙ ap₂ halfDegrees f k))
+  sensor-2 h l z e f k g =
+      simp (eq-eqb (length rs) cells w, e) (ap temperature.HalfDegrees (g .0 ∙ ap₂ halfDegrees f k))
 
-  pub sensor-3 : (h l : ℕ) (z : ℤ) → n ≡ 3 → h ≡ getD rs 80 0 → l ≡ getD rs 81 0 → (z ≡ halfDegrees h l) × TwosComplement × NineBits → temperature.HalfDegrees z ≡ temperatureOf rs n
+  pub sensor-3 : (h l : ℕ) (z : ℤ) → n ≡ 3 → h ≡ getD rs (bankCell 3) 0 → l ≡ getD rs (lowByte (bankCell 3)) 0
+      → (z ≡ halfDegrees h l) × TwosComplement × NineBits → temperature.HalfDegrees z ≡ temperatureOf rs n
   unfolding temperatureOf temperatureAt
-  sensor-3 h l z e f k g = simp (eq-eqb (length rs) cells w, e) (ap temperature.HalfDegrees (g .0 ∙ ap₂ halfDegrees f k))
+  sensor-3 h l z e f k g =
+      simp (eq-eqb (length rs) cells w, e) (ap temperature.HalfDegrees (g .0 ∙ ap₂ halfDegrees f k))
 
   pub no-sensor : NoKey ((3 ∷ []) ∷ (2 ∷ []) ∷ (1 ∷ []) ∷ []) n → temperature.Refused ≡ temperatureOf rs n
   unfolding temperatureOf temperatureAt
   no-sensor m = simp (eq-eqb (length rs) cells w, ne-eqb n 3 (m .1), ne-eqb n 2 (m .0 .1), ne-eqb n 1 (m .0 .0 .1))
 
-  pub duty-1 : (b p : ℕ) → n ≡ 1 → b ≡ getD rs 59 0 → p ≡ pwmParts b → duty.Parts p ≡ dutyOf rs n
+  pub duty-1 : (b p : ℕ) → n ≡ 1 → b ≡ getD rs pwmDuty1 0 → p ≡ pwmParts b → duty.Parts p ≡ dutyOf rs n
   unfolding dutyOf dutyAt
   duty-1 b p e f g = simp (eq-eqb (length rs) cells w, e) (ap duty.Parts (g ∙ ap pwmParts f))
 
-  pub duty-2 : (b p : ℕ) → n ≡ 2 → b ≡ getD rs 58 0 → p ≡ pwmParts b → duty.Parts p ≡ dutyOf rs n
+  pub duty-2 : (b p : ℕ) → n ≡ 2 → b ≡ getD rs pwmDuty2 0 → p ≡ pwmParts b → duty.Parts p ≡ dutyOf rs n
   unfolding dutyOf dutyAt
   duty-2 b p e f g = simp (eq-eqb (length rs) cells w, e) (ap duty.Parts (g ∙ ap pwmParts f))
 
-  pub duty-3 : (b p : ℕ) → n ≡ 3 → b ≡ getD rs 62 0 → p ≡ pwmParts b → duty.Parts p ≡ dutyOf rs n
+  pub duty-3 : (b p : ℕ) → n ≡ 3 → b ≡ getD rs pwmDuty3 0 → p ≡ pwmParts b → duty.Parts p ≡ dutyOf rs n
   unfolding dutyOf dutyAt
   duty-3 b p e f g = simp (eq-eqb (length rs) cells w, e) (ap duty.Parts (g ∙ ap pwmParts f))
 
-  pub duty-4 : (b p : ℕ) → n ≡ 4 → b ≡ getD rs 63 0 → p ≡ pwmParts b → duty.Parts p ≡ dutyOf rs n
+  pub duty-4 : (b p : ℕ) → n ≡ 4 → b ≡ getD rs pwmDuty4 0 → p ≡ pwmParts b → duty.Parts p ≡ dutyOf rs n
   unfolding dutyOf dutyAt
   duty-4 b p e f g = simp (eq-eqb (length rs) cells w, e) (ap duty.Parts (g ∙ ap pwmParts f))
 
   pub no-duty : NoKey ((4 ∷ []) ∷ (3 ∷ []) ∷ (2 ∷ []) ∷ (1 ∷ []) ∷ []) n → duty.Refused ≡ dutyOf rs n
   unfolding dutyOf dutyAt
-  no-duty m = simp (eq-eqb (length rs) cells w, ne-eqb n 4 (m .1), ne-eqb n 3 (m .0 .1), ne-eqb n 2 (m .0 .0 .1), ne-eqb n 1 (m .0 .0 .0 .1))
+  no-duty m =
+      simp (
+        eq-eqb (length rs) cells w,
+        ne-eqb n 4 (m .1),
+        ne-eqb n 3 (m .0 .1),
+        ne-eqb n 2 (m .0 .0 .1),
+        ne-eqb n 1 (m .0 .0 .0 .1),
+      )

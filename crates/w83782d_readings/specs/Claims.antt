@@ -10,7 +10,8 @@ use Rattle.bits.specs.Bits.{choose, isBeyond}
 use Rattle.fan.specs.Speed.{speedAnswer, speedValue}
 use Rattle.analog.specs.Readings.{readingAnswer, readingValue, answerFor}
 use Rattle.w83782d_map.specs.Map.{fits}
-use Rattle.w83782d_readings.specs.Readings.{temperatureAnswer, temperatureValue, dutyAnswer, dutyValue, voltageOf, speedOf, temperatureOf, dutyOf}
+use Rattle.w83782d_readings.specs.Readings.{temperatureAnswer, temperatureValue, dutyAnswer, dutyValue}
+use Rattle.w83782d_readings.specs.Readings.{voltageOf, speedOf, temperatureOf, dutyOf}
 
 -- 8 exactly for a slice that is not the registers' 112 cells, and of the registers this answer
 abbrev pub sizedAnswer : List ℕ → ℕ → ℕ

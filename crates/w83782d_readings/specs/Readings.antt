@@ -69,8 +69,10 @@ halfDegrees high low = signedOf half9 (nineBits high low)
 unfoldable pub temperatureAt : List ℕ → ℕ → Temperature
 temperatureAt rs n =
     choose (eqb n 1) (temperature.HalfDegrees (halfDegrees (getD rs sensor1Value 0) 0))
-    (choose (eqb n 2) (temperature.HalfDegrees (halfDegrees (getD rs (bankCell 2) 0) (getD rs (lowByte (bankCell 2)) 0)))
-    (choose (eqb n 3) (temperature.HalfDegrees (halfDegrees (getD rs (bankCell 3) 0) (getD rs (lowByte (bankCell 3)) 0)))
+    (choose (eqb n 2)
+    (temperature.HalfDegrees (halfDegrees (getD rs (bankCell 2) 0) (getD rs (lowByte (bankCell 2)) 0)))
+    (choose (eqb n 3)
+    (temperature.HalfDegrees (halfDegrees (getD rs (bankCell 3) 0) (getD rs (lowByte (bankCell 3)) 0)))
     temperature.Refused))
 
 -- R-3: outputs 1 to 4 are 5Bh, 5Ah, 5Eh, 5Fh

@@ -1,5 +1,5 @@
--- The definitions of Registers.antt and Parts.antt by their cases, over plain variables: what each branch of the code knows gives
--- what it ensures. Assumes nothing.
+-- The definitions of Registers.antt and Parts.antt by their cases, over plain variables:
+-- what each branch of the code knows gives what it ensures. Assumes nothing.
 use mathlib.Core.Path.{_≡_, ap, _∙_}
 use mathlib.Core.Bool.{Bool, true, false, _&&_}
 use mathlib.Core.List.{List, [], _∷_}
@@ -16,7 +16,8 @@ use Rattle.bits.proofs.Match.{NoKey}
 use Rattle.bits.proofs.Tables.{over}
 use Rattle.bits.proofs.Restored as restored
 use Rattle.w83782d_map.specs.Map.{cells, powerOnAt, keptAt}
-use Rattle.w83782d_map.specs.Cells.{bankCell, bankSelect, chassisClear, chipId, configuration, deviceId, interruptStatus2, realTimeStatus2, vendorId, vidFanDivisor}
+use Rattle.w83782d_map.specs.Cells.{bankCell, bankSelect, chassisClear, chipId, configuration}
+use Rattle.w83782d_map.specs.Cells.{deviceId, interruptStatus2, realTimeStatus2, vendorId, vidFanDivisor}
 use Rattle.w83782d_registers.specs.Registers.{cellOf, reachOf, isInterrupt, withChassis, vendorByte, shownOf}
 use Rattle.w83782d_registers.specs.Parts.{restoredByte, restoredRegisters, restoredIn}
 
@@ -61,14 +62,24 @@ module _ (b i : ℕ) where
     pub cell-bank-none : (b ≡ 0 → ⊥) → (b ≡ 1 → ⊥) → (b ≡ 2 → ⊥) → (b ≡ 4 → ⊥) → 112 ≡ cellOf b i
     unfolding cellOf
     cell-bank-none n0 n1 n2 n4 =
-        simp (le-ltb i 0x20 h, le-ltb 0x7F i k, lt-leb 0x60 i a, le-ltb i 0x50 l, ne-eqb b 0 n0, ne-eqb b 1 n1, ne-eqb b 2 n2, ne-eqb b 4 n4)
+        simp (
+          le-ltb i 0x20 h,
+          le-ltb 0x7F i k,
+          lt-leb 0x60 i a,
+          le-ltb i 0x50 l,
+          ne-eqb b 0 n0,
+          ne-eqb b 1 n1,
+          ne-eqb b 2 n2,
+          ne-eqb b 4 n4,
+        )
 
 -- ---- power-on and reset
 pub restored-count : (keep : Bool) (rs : List ℕ) → length (restoredRegisters keep rs) ≡ cells
 unfolding restoredRegisters
 restored-count = restored.restored-count powerOnAt keptAt cells
 
-pub restore-next : (keep : Bool) (rs ts : List ℕ) (c r : ℕ) → length rs ≡ cells → c < cells → ts ≡ over (restoredRegisters keep rs) rs c
+pub restore-next : (keep : Bool) (rs ts : List ℕ) (c r : ℕ) → length rs ≡ cells → c < cells
+    → ts ≡ over (restoredRegisters keep rs) rs c
     → r ≡ restoredByte keep c (getD ts c 0) → set ts c r ≡ over (restoredRegisters keep rs) rs (suc c)
 unfolding restoredRegisters
 restore-next = restored.restore-next powerOnAt keptAt cells
@@ -105,7 +116,8 @@ module _ (rs : List ℕ) (chassis : Bool) (c x : ℕ) (e : x ≡ getD rs c 0) wh
   unfolding shownOf
   shown-configuration h = rw (e, h)
 
-  pub shown-status : (b : ℕ) → OneOf (interruptStatus2 ∷ realTimeStatus2 ∷ []) c → b ≡ withChassis x chassis → b ≡ shownOf rs chassis c
+  pub shown-status : (b : ℕ) → OneOf (interruptStatus2 ∷ realTimeStatus2 ∷ []) c → b ≡ withChassis x chassis
+      → b ≡ shownOf rs chassis c
   unfolding shownOf
   shown-status b h f = f ∙ ap (λ (y : ℕ). withChassis y chassis) e ∙ ⊎-elim (λ q. rw q) (λ q. rw q) h
 
@@ -129,7 +141,9 @@ module _ (rs : List ℕ) (chassis : Bool) (c x : ℕ) (e : x ≡ getD rs c 0) wh
   unfolding shownOf
   shown-chip h = rw h
 
-  pub shown-cell : NoKey ((chipId ∷ []) ∷ (vendorId ∷ []) ∷ (deviceId ∷ []) ∷ (vidFanDivisor ∷ []) ∷ (chassisClear ∷ []) ∷ (interruptStatus2 ∷ realTimeStatus2 ∷ []) ∷ (configuration ∷ []) ∷ []) c
+  pub shown-cell : NoKey
+      ((chipId ∷ []) ∷ (vendorId ∷ []) ∷ (deviceId ∷ []) ∷ (vidFanDivisor ∷ []) ∷ (chassisClear ∷ [])
+      ∷ (interruptStatus2 ∷ realTimeStatus2 ∷ []) ∷ (configuration ∷ []) ∷ []) c
       → x ≡ shownOf rs chassis c
   unfolding shownOf
   shown-cell n =
@@ -161,6 +175,7 @@ bank-1 n e = (rw e, omega arith)
 pub bank-2 : (n : ℕ) → (n ≡ 2 → ⊥) → (80 ≡ bankCell n) × (80 ≤ 80)
 bank-2 n m = (simp (ne-eqb n 2 m), omega arith)
 
-pub interrupt-at : (rs : List ℕ) (n k y : ℕ) (b : Bool) → (k ≡ bankCell n) × (k ≤ 80) → y ≡ getD rs (k + 2) 0 → b ≡ isOn y 1 → b ≡ isInterrupt rs n
+pub interrupt-at : (rs : List ℕ) (n k y : ℕ) (b : Bool) → (k ≡ bankCell n) × (k ≤ 80) → y ≡ getD rs (k + 2) 0
+    → b ≡ isOn y 1 → b ≡ isInterrupt rs n
 unfolding isInterrupt
 interrupt-at rs n k y b e f g = g ∙ rw (f, e .0)

@@ -1,5 +1,5 @@
--- Which register an access reaches, what power-on and reset give every cell, commands, the OVT mode, and what a read shows
--- (rules M-2, M-3, M-5 to M-8, O-1).
+-- Which register an access reaches, what power-on and reset give every cell, commands,
+-- the OVT mode, and what a read shows (rules M-2, M-3, M-5 to M-8, O-1).
 use mathlib.Core.Bool.{Bool, _&&_, _||_}
 use mathlib.Core.List.{List}
 use Prim.Native.Nat.{ℕ, _-_}
@@ -9,7 +9,8 @@ use lib.ListN.{getD}
 use Rattle.bits.specs.Bits.{choose, isOn}
 use Rattle.bits.specs.Map.{powerOnCells, resetCells}
 use Rattle.w83782d_map.specs.Map.{cells, at, atBank, powerOnAt, keptAt}
-use Rattle.w83782d_map.specs.Cells.{bankCell, bankSelect, chassisClear, chipId, configuration, deviceId, interruptStatus2, realTimeStatus2, sensorConfiguration, vendorId, vidFanDivisor}
+use Rattle.w83782d_map.specs.Cells.{bankCell, bankSelect, chassisClear, chipId, configuration, deviceId}
+use Rattle.w83782d_map.specs.Cells.{interruptStatus2, realTimeStatus2, sensorConfiguration, vendorId, vidFanDivisor}
 
 -- ---- which register an access reaches
 

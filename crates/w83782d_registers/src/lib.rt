@@ -1,12 +1,13 @@
-// What the registers do as a whole: the cell that an access reaches, power-on and reset of every cell, commands, and the byte
-// that a read shows.
+// What the registers do as a whole: the cell that an access reaches, power-on and reset
+// of every cell, commands, and the byte that a read shows.
 ghost use mathlib.Core.Path.{_≡_};
 ghost use mathlib.Core.Bool.{_&&_};
 ghost use Prim.Native.Nat.{_≤_};
 ghost use lib.Dec.{eqb};
 ghost use Rattle.bits.specs.Bits.{isOn};
 ghost use Rattle.w83782d_map.specs.Cells.{bankCell};
-ghost use Rattle.w83782d_registers.specs.Registers.{cellOf, reachOf, isInterrupt, withChassis, vendorByte, shownOf};
+ghost use Rattle.w83782d_registers.specs.Registers.{cellOf, reachOf, isInterrupt};
+ghost use Rattle.w83782d_registers.specs.Registers.{withChassis, vendorByte, shownOf};
 ghost use Rattle.w83782d_registers.specs.Parts.{restoredByte, restoredIn};
 use bits::Bit;
 use bits::is_on;

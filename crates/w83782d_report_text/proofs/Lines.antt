@@ -46,24 +46,29 @@ module _ (o : List ℕ) (at n : ℕ) (fs : List ℤ) where
   unfolding readingLines
   one-line p q w m k i h f e g = rw add-one (f then rw (e, names-are i h) at g)
 
-  pub eleven-lines : (p : List ℕ) (m i : ℕ) → i ≤ 11 → 11 ≤ i → Put o at (readingLines i n fs) p m → Put o at (readingLines 11 n fs) p m
+  pub eleven-lines : (p : List ℕ) (m i : ℕ) → i ≤ 11 → 11 ≤ i → Put o at (readingLines i n fs) p m
+      → Put o at (readingLines 11 n fs) p m
   eleven-lines p m i h k f = let e : i ≡ 11 = omega arith in rw e at f
 
   -- with sensors 2 and 3
   pub all-readings : (p q s : List ℕ) (a b c : ℕ) → Put o at (readingLines 11 n fs) p a
-      → Put p a (readingLine (ascii "1.50") n (figureAt fs 33)) q b → Put q b (readingLine (ascii "2.50") n (figureAt fs 36)) s c
+      → Put p a (readingLine (ascii "1.50") n (figureAt fs 33)) q b
+      → Put q b (readingLine (ascii "2.50") n (figureAt fs 36)) s c
       → Put o at (readingLines 13 n fs) s c
   unfolding readingLines
   all-readings p q s a b c f g h = (f then g) then h
 
 module _ (o p q : List ℕ) (at a b : ℕ) where
-  pub both-bytes : (cs ds : List ℕ) → Put o at (countLines (ascii "41") cs) p a → Put p a (countLines (ascii "42") (take 6 ds)) q b
+  pub both-bytes : (cs ds : List ℕ) → Put o at (countLines (ascii "41") cs) p a
+      → Put p a (countLines (ascii "42") (take 6 ds)) q b
       → Put o at (latchedLines cs ds) q b
   unfolding latchedLines
   both-bytes cs ds f g = f then g
 
-  pub all-lines : (x : Fed Day) (s : List ℕ) (c n : ℕ) → n ≡ endAnswer x → Put o at (readingLines 13 (x .state .samples) (x .state .figures)) p a
-      → Put p a (latchedLines (x .state .first) (x .state .second)) q b → Put q b (endLine n (x .state .run .accepted)) s c
+  pub all-lines : (x : Fed Day) (s : List ℕ) (c n : ℕ) → n ≡ endAnswer x
+      → Put o at (readingLines 13 (x .state .samples) (x .state .figures)) p a
+      → Put p a (latchedLines (x .state .first) (x .state .second)) q b
+      → Put q b (endLine n (x .state .run .accepted)) s c
       → Put o at (reportText (summaryOf x)) s c
   unfolding reportText
   all-lines x s c n e f g h = f then g then rw e at h

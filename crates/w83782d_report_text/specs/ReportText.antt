@@ -27,4 +27,6 @@ latchedLines first second = countLines (ascii "41") first ++ countLines (ascii "
 
 -- 13 readings, the bits, the end
 unfoldable pub reportText : Summary → List ℕ
-reportText r = readingLines 13 (r .samples) (r .figures) ++ (latchedLines (r .first) (r .second) ++ endLine (r .answer) (r .accepted))
+reportText r =
+    readingLines 13 (r .samples) (r .figures)
+    ++ (latchedLines (r .first) (r .second) ++ endLine (r .answer) (r .accepted))

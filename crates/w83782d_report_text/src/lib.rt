@@ -1,5 +1,5 @@
-// The 28 lines of the report of a day, put into a lent buffer: the figures of each reading, how often each bit of 41h and 42h
-// was latched, and the end.
+// The 28 lines of the report of a day, put into a lent buffer: the figures of each
+// reading, how often each bit of 41h and 42h was latched, and the end.
 ghost use mathlib.Core.Path.{_≡_};
 ghost use Prim.Native.Nat.{_+_};
 ghost use lib.ListN.{length};
@@ -59,7 +59,8 @@ fn put_readings(out: &mut [u8], at: usize, samples: u64, figures: &[i64]) -> usi
 
 fn put_latched(out: &mut [u8], at: usize, first: &[u64], second: &[u64]) -> usize
     requires { ⌜ length (now second) ≡ 8 ⌝ }
-    ensures { λ r. ⌜ Put (now (out .entry)) at (latchedLines (now (first .entry)) (now (second .entry))) (now (out .exit)) r ⌝ }
+    ensures { λ r. ⌜ Put (now (out .entry)) at (latchedLines (now (first .entry)) (now (second .entry)))
+        (now (out .exit)) r ⌝ }
 {
     let next = put_counts(out, at, b"41", first);
     put_counts(out, next, b"42", &second[..BITS_OF_42])

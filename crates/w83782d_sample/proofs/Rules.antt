@@ -1,5 +1,5 @@
--- The definitions of Sample.antt by their cases, over plain variables: what each branch of the code knows gives what it ensures.
--- Assumes nothing.
+-- The definitions of Sample.antt by their cases, over plain variables: what each branch
+-- of the code knows gives what it ensures. Assumes nothing.
 use mathlib.Core.Path.{_≡_, refl, ap₂, sym, _∙_}
 use mathlib.Core.Bool.{Bool, true, false}
 use mathlib.Core.List.{List, [], _∷_}
@@ -36,11 +36,13 @@ use Rattle.w83782d_conditions.specs.declared.Compared.{Compared}
 use Rattle.w83782d_conditions.specs.Conditions.{isOutside, isAbove, isSlow, outputMode, comparisonOf, comparedOf}
 use Rattle.w83782d_conditions.specs.ConditionParts.{comparedIn}
 use Rattle.w83782d_conditions.proofs.Rules.{not-one}
-use Rattle.w83782d_sample.specs.Sample.{statusAt, outputAt, remoteAfter, statusRegisters, steppedLatches, sampleOf, latchedOf}
+use Rattle.w83782d_sample.specs.Sample.{statusAt, outputAt, remoteAfter, statusRegisters}
+use Rattle.w83782d_sample.specs.Sample.{steppedLatches, sampleOf, latchedOf}
 use Rattle.w83782d_sample.specs.SampleParts.{remoteStep, Evaluates, SetsStatus, outcomeOf, refusedOf, latchedIn}
 
 -- ---- the steps
-pub remote-stepped : (s : Comparison) (o : Mode) (r : Remote) (st : Status) (out : Output) → st ≡ statusOf (s .mode) (r .status) (s .above) (s .below) → out ≡ outputOf o (r .output) (s .above) (s .below)
+pub remote-stepped : (s : Comparison) (o : Mode) (r : Remote) (st : Status) (out : Output)
+    → st ≡ statusOf (s .mode) (r .status) (s .above) (s .below) → out ≡ outputOf o (r .output) (s .above) (s .below)
     → record { remote = remote (st .mark) out; latched = st .latched } ≡ remoteStep s o r
 unfolding remoteStep
 remote-stepped s o r st out e f = rw (e, f)
@@ -50,12 +52,14 @@ found : (rs : List ℕ) → length rs ≡ cells → (c : Compared) → c ≡ com
 found rs h c e = e ∙ simp (eq-eqb (length rs) cells h)
 
 module _ (rs : List ℕ) (l : Latches) where
-  status-1 : (st : Status) → st ≡ statusOf (comparisonOf rs 1 .mode) (l .sensor1) (comparisonOf rs 1 .above) (comparisonOf rs 1 .below) → st ≡ statusAt rs l 1
+  status-1 : (st : Status) → st ≡ statusOf (comparisonOf rs 1 .mode) (l .sensor1) (comparisonOf rs 1 .above)
+      (comparisonOf rs 1 .below) → st ≡ statusAt rs l 1
   unfolding comparisonOf statusAt
   status-1 st e = e
 
   -- sensors 2 and 3, over the number
-  module _ (n : ℕ) (h : 2 ≤ n) (x : Step) (e : x ≡ remoteStep (comparisonOf rs n) (outputMode rs n) (remoteOf l n)) where
+  module _ (n : ℕ) (h : 2 ≤ n) (x : Step)
+      (e : x ≡ remoteStep (comparisonOf rs n) (outputMode rs n) (remoteOf l n)) where
     latched-n : x .latched ≡ statusAt rs l n .latched
     unfolding remoteStep statusAt comparisonOf
     latched-n = simp (e, not-one n h)
@@ -71,7 +75,8 @@ flag-le false = lit< tt
 
 byte-of : (a b c d e f g h : Bool) → word (a ∷ b ∷ c ∷ d ∷ e ∷ f ∷ g ∷ h ∷ []) < 256
 unfolding word
-byte-of a b c d e f g h = omega (arith, flag-le a, flag-le b, flag-le c, flag-le d, flag-le e, flag-le f, flag-le g, flag-le h)
+byte-of a b c d e f g h =
+    omega (arith, flag-le a, flag-le b, flag-le c, flag-le d, flag-le e, flag-le f, flag-le g, flag-le h)
 
 off-right : (b : Bool) → max (flagOf b) 0 ≡ flagOf b
 off-right true = refl
@@ -81,20 +86,25 @@ off-left : (b : Bool) → max 0 (flagOf b) ≡ flagOf b
 off-left true = refl
 off-left false = refl
 
-joined : (a b c d e f g h : Bool) → bitOr (word (a ∷ b ∷ c ∷ d ∷ false ∷ false ∷ g ∷ h ∷ [])) (word (false ∷ false ∷ false ∷ false ∷ e ∷ f ∷ false ∷ false ∷ []))
+joined : (a b c d e f g h : Bool) → bitOr (word (a ∷ b ∷ c ∷ d ∷ false ∷ false ∷ g ∷ h ∷ []))
+    (word (false ∷ false ∷ false ∷ false ∷ e ∷ f ∷ false ∷ false ∷ []))
     ≡ word (a ∷ b ∷ c ∷ d ∷ e ∷ f ∷ g ∷ h ∷ [])
 joined a b c d e f g h =
     let x = word (a ∷ b ∷ c ∷ d ∷ false ∷ false ∷ g ∷ h ∷ []) in
     let y = word (false ∷ false ∷ false ∷ false ∷ e ∷ f ∷ false ∷ false ∷ []) in
-    same-byte (bitOr x y) (word (a ∷ b ∷ c ∷ d ∷ e ∷ f ∷ g ∷ h ∷ [])) (or-lt 8 x y (byte-of a b c d false false g h) (byte-of false false false false e f false false)) (byte-of a b c d e f g h)
+    same-byte (bitOr x y) (word (a ∷ b ∷ c ∷ d ∷ e ∷ f ∷ g ∷ h ∷ []))
+    (or-lt 8 x y (byte-of a b c d false false g h) (byte-of false false false false e f false false))
+    (byte-of a b c d e f g h)
     (λ j hj.
     or-bit x y j
-    ∙ ap₂ max (word-bit (a ∷ b ∷ c ∷ d ∷ false ∷ false ∷ g ∷ h ∷ []) j) (word-bit (false ∷ false ∷ false ∷ false ∷ e ∷ f ∷ false ∷ false ∷ []) j)
+    ∙ ap₂ max (word-bit (a ∷ b ∷ c ∷ d ∷ false ∷ false ∷ g ∷ h ∷ []) j)
+    (word-bit (false ∷ false ∷ false ∷ false ∷ e ∷ f ∷ false ∷ false ∷ []) j)
     ∙ at j hj
     ∙ sym (word-bit (a ∷ b ∷ c ∷ d ∷ e ∷ f ∷ g ∷ h ∷ []) j))
   where
     at : (j : ℕ) → j < 8
-        → max (flagOf (getD (a ∷ b ∷ c ∷ d ∷ false ∷ false ∷ g ∷ h ∷ []) j false)) (flagOf (getD (false ∷ false ∷ false ∷ false ∷ e ∷ f ∷ false ∷ false ∷ []) j false))
+        → max (flagOf (getD (a ∷ b ∷ c ∷ d ∷ false ∷ false ∷ g ∷ h ∷ []) j false))
+        (flagOf (getD (false ∷ false ∷ false ∷ false ∷ e ∷ f ∷ false ∷ false ∷ []) j false))
         ≡ flagOf (getD (a ∷ b ∷ c ∷ d ∷ e ∷ f ∷ g ∷ h ∷ []) j false)
     at zero k = off-right a
     at (suc zero) k = off-right b
@@ -113,41 +123,68 @@ short a b c d e f = refl
 
 evaluation-of : (rs : List ℕ) (l : Latches) (one : Status) (two three : Step) (w1 w2 r1 r2 l1 l2 : ℕ)
     → one ≡ statusOf (comparisonOf rs 1 .mode) (l .sensor1) (comparisonOf rs 1 .above) (comparisonOf rs 1 .below)
-    → two ≡ remoteStep (comparisonOf rs 2) (outputMode rs 2) (getD (l .remote) 0 armed) → three ≡ remoteStep (comparisonOf rs 3) (outputMode rs 3) (getD (l .remote) 1 armed)
-    → w1 ≡ word (isOutside rs 0 ∷ isOutside rs 1 ∷ isOutside rs 2 ∷ isOutside rs 3 ∷ false ∷ false ∷ isSlow rs 1 ∷ isSlow rs 2 ∷ [])
+    → two ≡ remoteStep (comparisonOf rs 2) (outputMode rs 2) (getD (l .remote) 0 armed)
+    → three ≡ remoteStep (comparisonOf rs 3) (outputMode rs 3) (getD (l .remote) 1 armed)
+    → w1 ≡ word (isOutside rs 0 ∷ isOutside rs 1 ∷ isOutside rs 2 ∷ isOutside rs 3 ∷ false ∷ false ∷ isSlow rs 1
+    ∷ isSlow rs 2 ∷ [])
     → w2 ≡ word (isOutside rs 4 ∷ isOutside rs 5 ∷ isOutside rs 6 ∷ isSlow rs 3 ∷ false ∷ false ∷ false ∷ false ∷ [])
     → r1 ≡ word (false ∷ false ∷ false ∷ false ∷ isAbove rs 1 ∷ isAbove rs 2 ∷ false ∷ false ∷ [])
     → r2 ≡ word (false ∷ false ∷ false ∷ false ∷ false ∷ isAbove rs 3 ∷ false ∷ false ∷ [])
     → l1 ≡ word (false ∷ false ∷ false ∷ false ∷ one .latched ∷ two .latched ∷ false ∷ false ∷ [])
     → l2 ≡ word (false ∷ false ∷ false ∷ false ∷ false ∷ three .latched ∷ false ∷ false ∷ [])
-    → Evaluates rs l (record { real1 = bitOr w1 r1; real2 = bitOr w2 r2; latched1 = bitOr w1 l1; latched2 = bitOr w2 l2; latches = record { chassis = l .chassis; sensor1 = one .mark; remote = two .remote ∷ three .remote ∷ [] } })
+    → Evaluates rs l
+    (record {
+      real1 = bitOr w1 r1;
+      real2 = bitOr w2 r2;
+      latched1 = bitOr w1 l1;
+      latched2 = bitOr w2 l2;
+      latches =
+          record { chassis = l .chassis; sensor1 = one .mark; remote = two .remote ∷ three .remote ∷ [] };
+    })
 unfolding steppedLatches
 evaluation-of rs l one two three w1 w2 r1 r2 l1 l2 e1 e2 e3 d1 d2 f1 f2 g1 g2 =
     record {
       real1 = ap₂ bitOr d1 f1 ∙ joined _ _ _ _ _ _ _ _;
       real2 = ap₂ bitOr d2 f2 ∙ joined _ _ _ _ false _ false false ∙ short _ _ _ _ _ _;
-      latched1 = ap₂ bitOr d1 g1 ∙ joined _ _ _ _ (one .latched) (two .latched) _ _ ∙ simp (status-1 rs l one e1, latched-n rs l 2 (lit≤ tt) two e2);
-      latched2 = ap₂ bitOr d2 g2 ∙ joined _ _ _ _ false (three .latched) false false ∙ simp (latched-n rs l 3 (lit≤ tt) three e3) (short _ _ _ _ _ _);
+      latched1 =
+          ap₂ bitOr d1 g1 ∙ joined _ _ _ _ (one .latched) (two .latched) _ _
+          ∙ simp (status-1 rs l one e1, latched-n rs l 2 (lit≤ tt) two e2);
+      latched2 =
+          ap₂ bitOr d2 g2 ∙ joined _ _ _ _ false (three .latched) false false
+          ∙ simp (latched-n rs l 3 (lit≤ tt) three e3) (short _ _ _ _ _ _);
       latches = simp (status-1 rs l one e1, remote-n rs l 2 (lit≤ tt) two e2, remote-n rs l 3 (lit≤ tt) three e3);
     }
 
-pub evaluation : (rs : List ℕ) (l : Latches) (c : Compared) (one : Status) (two three : Step) (r1 r2 l1 l2 : ℕ) → length rs ≡ cells → c ≡ comparedIn rs
+pub evaluation : (rs : List ℕ) (l : Latches) (c : Compared) (one : Status) (two three : Step) (r1 r2 l1 l2 : ℕ)
+    → length rs ≡ cells → c ≡ comparedIn rs
     → one ≡ statusOf (c .one .mode) (l .sensor1) (c .one .above) (c .one .below)
-    → two ≡ remoteStep (c .two) (c .output2) (getD (l .remote) 0 armed) → three ≡ remoteStep (c .three) (c .output3) (getD (l .remote) 1 armed)
+    → two ≡ remoteStep (c .two) (c .output2) (getD (l .remote) 0 armed)
+    → three ≡ remoteStep (c .three) (c .output3) (getD (l .remote) 1 armed)
     → r1 ≡ word (false ∷ false ∷ false ∷ false ∷ c .one .above ∷ c .two .above ∷ false ∷ false ∷ [])
     → r2 ≡ word (false ∷ false ∷ false ∷ false ∷ false ∷ c .three .above ∷ false ∷ false ∷ [])
     → l1 ≡ word (false ∷ false ∷ false ∷ false ∷ one .latched ∷ two .latched ∷ false ∷ false ∷ [])
     → l2 ≡ word (false ∷ false ∷ false ∷ false ∷ false ∷ three .latched ∷ false ∷ false ∷ [])
-    → Evaluates rs l (record { real1 = bitOr (c .first) r1; real2 = bitOr (c .second) r2; latched1 = bitOr (c .first) l1; latched2 = bitOr (c .second) l2; latches = record { chassis = l .chassis; sensor1 = one .mark; remote = two .remote ∷ three .remote ∷ [] } })
+    → Evaluates rs l
+    (record {
+      real1 = bitOr (c .first) r1;
+      real2 = bitOr (c .second) r2;
+      latched1 = bitOr (c .first) l1;
+      latched2 =
+          bitOr (c .second) l2;
+      latches =
+          record { chassis = l .chassis; sensor1 = one .mark; remote = two .remote ∷ three .remote ∷ [] };
+    })
 unfolding comparedOf comparisonOf
 evaluation rs l c one two three r1 r2 l1 l2 h e e1 e2 e3 f1 f2 g1 g2 =
     let k = found rs h c e in
-    rw k (evaluation-of rs l one two three _ _ r1 r2 l1 l2 (rw k at e1) (rw k at e2) (rw k at e3) refl refl (rw k at f1) (rw k at f2) g1 g2)
+    rw k (evaluation-of rs l one two three _ _ r1 r2 l1 l2 (rw k at e1) (rw k at e2) (rw k at e3) refl refl (rw k at f1)
+    (rw k at f2) g1 g2)
 
 -- ---- four stores are the list of statusStores
 pub status-set : (rs : List ℕ) (l : Latches) (j : Evaluation) → Evaluates rs l j
     → SetsStatus rs l
-    (set (set (set (set rs interruptStatus1 (bitOr (getD rs interruptStatus1 0) (j .latched1))) interruptStatus2 (bitOr (getD rs interruptStatus2 0) (j .latched2))) realTimeStatus1 (j .real1)) realTimeStatus2 (j .real2))
+    (set (set (set (set rs interruptStatus1 (bitOr (getD rs interruptStatus1 0) (j .latched1))) interruptStatus2
+    (bitOr (getD rs interruptStatus2 0) (j .latched2))) realTimeStatus1 (j .real1)) realTimeStatus2 (j .real2))
     (record { latches = j .latches; latched = statusBits (j .latched1) (j .latched2) })
 unfolding statusRegisters
 status-set rs l j e =
@@ -169,7 +206,11 @@ module _ (rs : List ℕ) (l : Latches) (x : Sample) where
   module _ (h : length rs ≡ cells) (a : ℕ) (e : a ≡ sampleAnswer rs x) where
     pub sample-refused : (r : Sampled) → r ≡ refusedOf l a → (a ≡ 0 → ⊥) → IsSampled rs r
     unfolding sampleOf latchedOf
-    sample-refused r q n = rw q (simp (eq-eqb (length rs) cells h, ← e, ne-eqb a 0 n), simp (eq-eqb (length rs) cells h, ← e, ne-eqb a 0 n))
+    sample-refused r q n =
+        rw q (
+          simp (eq-eqb (length rs) cells h, ← e, ne-eqb a 0 n),
+          simp (eq-eqb (length rs) cells h, ← e, ne-eqb a 0 n),
+        )
 
     pub sample-accepted : (ts us : List ℕ) (m : Latching) → a ≡ 0 → ts ≡ storedIn rs x → SetsStatus ts l us m
         → IsSampled us (record { latches = m .latches; answer = 0; latched = m .latched })

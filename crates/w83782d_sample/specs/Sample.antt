@@ -1,4 +1,5 @@
--- What a sample does with what it stores (rules S-8 to S-10, T-1 to T-6, O-2 to O-4). Rails are numbered 0 to 6, sensors and fans 1 to 3.
+-- What a sample does with what it stores (rules S-8 to S-10, T-1 to T-6, O-2 to O-4).
+-- Rails are numbered 0 to 6, sensors and fans 1 to 3.
 use mathlib.Core.Bool.{Bool, false}
 use mathlib.Core.List.{List, [], _∷_, map}
 use Prim.Native.Nat.{ℕ}
@@ -89,7 +90,8 @@ steppedLatches rs l = latches (l .chassis) (statusAt rs l 1 .mark) (remoteAfter 
 
 abbrev pub sampledState : State → Sample → State
 sampledState s x =
-    state (statusRegisters (storedReadings (s .registers) x) (s .latches)) (steppedLatches (storedReadings (s .registers) x) (s .latches))
+    state (statusRegisters (storedReadings (s .registers) x) (s .latches))
+    (steppedLatches (storedReadings (s .registers) x) (s .latches))
 
 unfoldable pub sampleOf : State → Sample → Written
 sampleOf s x =
@@ -100,5 +102,6 @@ sampleOf s x =
 unfoldable pub latchedOf : State → Sample → StatusBits
 latchedOf s x =
     choose (eqb (sampleAnswer (s .registers) x) 0)
-    (statusBits (latchedByte (storedReadings (s .registers) x) (s .latches) firstByte) (latchedByte (storedReadings (s .registers) x) (s .latches) secondByte))
+    (statusBits (latchedByte (storedReadings (s .registers) x) (s .latches) firstByte)
+    (latchedByte (storedReadings (s .registers) x) (s .latches) secondByte))
     noBits

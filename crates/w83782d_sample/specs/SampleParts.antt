@@ -18,13 +18,16 @@ use Rattle.w83782d_sample.specs.declared.Step.{Step}
 use Rattle.w83782d_sample.specs.declared.Evaluation.{Evaluation}
 use Rattle.w83782d_sample.specs.declared.Latching.{Latching}
 use Rattle.w83782d_sample.specs.declared.Sampled.{Sampled}
-use Rattle.w83782d_sample.specs.Sample.{realTimeByte, latchedByte, firstByte, secondByte, statusRegisters, steppedLatches, latchedOf}
+use Rattle.w83782d_sample.specs.Sample.{realTimeByte, latchedByte, firstByte, secondByte}
+use Rattle.w83782d_sample.specs.Sample.{statusRegisters, steppedLatches, latchedOf}
 
 -- the step of sensors 2 and 3, from its comparison and its OVT mode
 unfoldable pub remoteStep : Comparison → Mode → Remote → Step
 remoteStep s o r =
     record {
-      remote = remote (statusOf (s .mode) (r .status) (s .above) (s .below) .mark) (outputOf o (r .output) (s .above) (s .below));
+      remote =
+          remote (statusOf (s .mode) (r .status) (s .above) (s .below) .mark)
+          (outputOf o (r .output) (s .above) (s .below));
       latched = statusOf (s .mode) (r .status) (s .above) (s .below) .latched;
     }
 

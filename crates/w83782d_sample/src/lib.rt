@@ -8,7 +8,8 @@ ghost use Rattle.bits.specs.Bits.{word};
 ghost use Rattle.w83782d_map.specs.Map.{cells};
 ghost use Rattle.w83782d_bus.specs.Bus.{state, sized, outcomeIn};
 ghost use Rattle.w83782d_sample.specs.Sample.{sampleOf};
-ghost use Rattle.w83782d_sample.specs.SampleParts.{remoteStep, Evaluates, SetsStatus, outcomeOf, refusedOf, latchedIn};
+ghost use Rattle.w83782d_sample.specs.SampleParts.{remoteStep, Evaluates, SetsStatus};
+ghost use Rattle.w83782d_sample.specs.SampleParts.{outcomeOf, refusedOf, latchedIn};
 use answers::ACCEPTED;
 use answers::WRONG_LENGTH;
 use bits::pack;
@@ -161,9 +162,11 @@ fn refused(latches: Latches, answer: u8) -> Sampled
     }
 }
 
-// A sample in place. Refused as 3 or 4 it leaves registers and latches; a slice that is not of 112 cells is refused as 8.
+// A sample in place. Refused as 3 or 4 it leaves registers and latches; a slice that is
+// not of 112 cells is refused as 8.
 pub fn sample_in(s: &mut [u8], l: Latches, x: Sample) -> Sampled
-    ensures outcome { λ r. ⌜ outcomeIn (now (s .exit)) (outcomeOf r) ≡ sized (now (s .entry)) l (sampleOf (state (now (s .entry)) l) x) ⌝ }
+    ensures outcome { λ r. ⌜ outcomeIn (now (s .exit)) (outcomeOf r)
+        ≡ sized (now (s .entry)) l (sampleOf (state (now (s .entry)) l) x) ⌝ }
     ensures latched { λ r. ⌜ r .latched ≡ latchedIn (now (s .entry)) l x ⌝ }
 {
     if s.len() != CELLS {

@@ -19,5 +19,6 @@ cold =
     }
 
 cold-is : sampleWords cold ≡ ascii "sample codes 100 93 206 185 196 35 5, degrees -1 -0.5 12.5, counts 305 0 1032"
-unfolding sampleWords allSpaced spaced degreesWords allHalves halvesWords signed signedPlaces places pointed lastDigits decimal spell
+unfolding sampleWords allSpaced spaced degreesWords allHalves halvesWords signed signedPlaces places pointed lastDigits
+    decimal spell
 cold-is = refl

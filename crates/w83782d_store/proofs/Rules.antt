@@ -1,5 +1,5 @@
--- The definitions of Stored.antt by their cases, over plain variables: what each branch of the code knows gives what it ensures.
--- Assumes nothing.
+-- The definitions of Stored.antt by their cases, over plain variables: what each branch
+-- of the code knows gives what it ensures. Assumes nothing.
 use mathlib.Core.Path.{_≡_, ap, _∙_}
 use mathlib.Core.Bool.{Bool, true, false, not}
 use mathlib.Core.List.{List}
@@ -19,8 +19,9 @@ use Rattle.analog.specs.declared.HalfCode.{HalfCode}
 use Rattle.analog.specs.declared.HalfCode.the-variants.{Code, OutOfRange}
 use Rattle.w83782d_layout.specs.declared.samples.Sample.{Sample}
 use Rattle.w83782d_map.specs.Map.{cells}
-use Rattle.w83782d_store.specs.Stored.{divisorPlaces, divisorOf, sampledHalves, storedCount, storedReadings, isStopped, sampleAnswer}
-use Rattle.w83782d_map.specs.Cells.{fanCount}
+use Rattle.w83782d_store.specs.Stored.{divisorPlaces, divisorOf, sampledHalves, storedCount}
+use Rattle.w83782d_store.specs.Stored.{storedReadings, isStopped, sampleAnswer}
+use Rattle.w83782d_map.specs.Cells.{configuration, fanCount}
 use Rattle.w83782d_store.specs.StoredParts.{fieldOf, withCounts, withCodes, withHalves, storedIn}
 
 -- ---- where a divisor's bits lie
@@ -33,7 +34,8 @@ places-2 f r e g = rw (e, g)
 pub places-3 : (f : ℕ) (r : Field) → (f ≡ 1 → ⊥) → (f ≡ 2 → ⊥) → r ≡ fieldOf 43 B6 B7 B7 → placesOf r ≡ divisorPlaces f
 places-3 f r a b g = simp (ne-eqb f 1 a, ne-eqb f 2 b) (ap placesOf g)
 
-pub counted : (rs : List ℕ) (f u q : ℕ) (d : Divisor) (p : Field) → placesOf p ≡ divisorPlaces f → d ≡ divisorAt rs (placesOf p) → q ≡ storedOf u (valueOf d)
+pub counted : (rs : List ℕ) (f u q : ℕ) (d : Divisor) (p : Field) → placesOf p ≡ divisorPlaces f
+    → d ≡ divisorAt rs (placesOf p) → q ≡ storedOf u (valueOf d)
     → q ≡ storedOf u (valueOf (divisorOf rs f))
 counted rs f u q d p e g h = h ∙ ap (λ (x : Divisor). storedOf u (valueOf x)) (g ∙ ap (divisorAt rs) e)
 
@@ -55,30 +57,36 @@ module _ (rs : List ℕ) (x : Sample) (b : Bool) (e : b ≡ outside (sampledHalv
     unfolding sampleAnswer
     answer-3 t = simp (← e, n, ← f, t)
 
-    pub answer-stopped : (y : ℕ) (s : Bool) → d ≡ false → y ≡ getD rs 32 0 → s ≡ isStopped y → s ≡ true → 4 ≡ sampleAnswer rs x
+    pub answer-stopped : (y : ℕ) (s : Bool) → d ≡ false → y ≡ getD rs configuration 0 → s ≡ isStopped y → s ≡ true
+        → 4 ≡ sampleAnswer rs x
     unfolding sampleAnswer
     answer-stopped y s m k g t = simp (← e, n, ← f, m, ← k, ← g, t)
 
-    pub answer-accepted : (y : ℕ) (s : Bool) → d ≡ false → y ≡ getD rs 32 0 → s ≡ isStopped y → s ≡ false → 0 ≡ sampleAnswer rs x
+    pub answer-accepted : (y : ℕ) (s : Bool) → d ≡ false → y ≡ getD rs configuration 0 → s ≡ isStopped y → s ≡ false
+        → 0 ≡ sampleAnswer rs x
     unfolding sampleAnswer
     answer-accepted y s m k g t = simp (← e, n, ← f, m, ← k, ← g, t)
 
 -- ---- stores
-pub halves-stored : (rs : List ℕ) (c h l : ℕ) (t : ℤ) (k : HalfCode) → k ≡ halfCodeOf t → k ≡ Code h l → set (set rs c h) (c + 1) l ≡ withHalves rs c t
+pub halves-stored : (rs : List ℕ) (c h l : ℕ) (t : ℤ) (k : HalfCode) → k ≡ halfCodeOf t → k ≡ Code h l
+    → set (set rs c h) (c + 1) l ≡ withHalves rs c t
 unfolding withHalves
 halves-stored rs c h l t k e f = rw (← e, f)
 
-pub halves-none : (rs : List ℕ) (c : ℕ) (t : ℤ) (k : HalfCode) → k ≡ halfCodeOf t → k ≡ OutOfRange → set (set rs c 0) (c + 1) 0 ≡ withHalves rs c t
+pub halves-none : (rs : List ℕ) (c : ℕ) (t : ℤ) (k : HalfCode) → k ≡ halfCodeOf t → k ≡ OutOfRange
+    → set (set rs c 0) (c + 1) 0 ≡ withHalves rs c t
 unfolding withHalves
 halves-none rs c t k e f = rw (← e, f)
 
-pub counts-stored : (rs : List ℕ) (x : Sample) (a b c : ℕ) → a ≡ storedCount rs x 1 → b ≡ storedCount rs x 2 → c ≡ storedCount rs x 3
+pub counts-stored : (rs : List ℕ) (x : Sample) (a b c : ℕ) → a ≡ storedCount rs x 1 → b ≡ storedCount rs x 2
+    → c ≡ storedCount rs x 3
     → set (set (set rs (fanCount 1) a) (fanCount 2) b) (fanCount 3) c ≡ withCounts rs x
 unfolding withCounts
 counts-stored rs x a b c ea eb ec = rw (ea, eb, ec)
 
 -- four stores, one after the other, are the list of readings
-pub readings-stored : (rs a b c d : List ℕ) (x : Sample) → a ≡ withCounts rs x → b ≡ withCodes a x → c ≡ withHalves b 64 (sampledHalves x 2) → d ≡ withHalves c 80 (sampledHalves x 3)
+pub readings-stored : (rs a b c d : List ℕ) (x : Sample) → a ≡ withCounts rs x → b ≡ withCodes a x
+    → c ≡ withHalves b 64 (sampledHalves x 2) → d ≡ withHalves c 80 (sampledHalves x 3)
     → d ≡ storedReadings rs x
 unfolding storedReadings withHalves withCodes withCounts
 readings-stored rs a b c d x e1 e2 e3 e4 = simp (e4, e3, e2, e1)

@@ -1,4 +1,5 @@
--- What a sample stores and when it is refused (rules S-1 to S-4, A-3, A-4). Rails are numbered 0 to 6, sensors and fans 1 to 3.
+-- What a sample stores and when it is refused (rules S-1 to S-4, A-3, A-4). Rails are
+-- numbered 0 to 6, sensors and fans 1 to 3.
 use mathlib.Core.Bool.{Bool, not, _||_}
 use mathlib.Core.List.{List, [], _∷_, _++_, map}
 use Prim.Native.Nat.{ℕ, _+_, _-_}
@@ -19,7 +20,8 @@ use Rattle.numbers.specs.TwosComplement.{half8, codeOf}
 use Rattle.analog.specs.Temperature.{outside, halfCodeOf, halfHigh, halfLow}
 use Rattle.limits.specs.Limits.{lowByte}
 use Rattle.w83782d_layout.specs.declared.samples.Sample.{Sample}
-use Rattle.w83782d_map.specs.Cells.{bankCell, configuration, fanCount, pinControl, sensor1Value, vbatFanDivisor, vidFanDivisor, voltage}
+use Rattle.w83782d_map.specs.Cells.{bankCell, configuration, fanCount, pinControl}
+use Rattle.w83782d_map.specs.Cells.{sensor1Value, vbatFanDivisor, vidFanDivisor, voltage}
 
 -- ---- S-2: a fan's divisor: fan 1 in 47h 5-4, fan 2 in 47h 7-6, fan 3 in 4Bh 7-6, the top bits in 5Dh 5, 6, 7
 abbrev pub place : ℕ → Bit → Place
@@ -56,7 +58,9 @@ fans = 1 ∷ 2 ∷ 3 ∷ []
 
 -- S-4: nine bits, in two bytes
 abbrev pub halves : Sample → ℕ → List Store
-halves x n = (bankCell n ≔ halfHigh (halfCodeOf (sampledHalves x n))) ∷ (lowByte (bankCell n) ≔ halfLow (halfCodeOf (sampledHalves x n))) ∷ []
+halves x n =
+    (bankCell n ≔ halfHigh (halfCodeOf (sampledHalves x n)))
+    ∷ (lowByte (bankCell n) ≔ halfLow (halfCodeOf (sampledHalves x n))) ∷ []
 
 -- the counts go by the divisors now set; all cells are distinct
 abbrev pub readings : List ℕ → Sample → List Store

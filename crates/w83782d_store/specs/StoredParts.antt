@@ -23,7 +23,8 @@ unfoldable pub withCounts : List ℕ → Sample → List ℕ
 withCounts rs x = puts rs (map (λ f. fanCount f ≔ storedCount rs x f) fans)
 
 unfoldable pub withCodes : List ℕ → Sample → List ℕ
-withCodes rs x = puts rs (map (λ i. voltage i ≔ sampledCode x i) rails ++ (sensor1Value ≔ codeOf half8 (x .sensor1)) ∷ [])
+withCodes rs x =
+    puts rs (map (λ i. voltage i ≔ sampledCode x i) rails ++ (sensor1Value ≔ codeOf half8 (x .sensor1)) ∷ [])
 
 unfoldable pub withHalves : List ℕ → ℕ → ℤ → List ℕ
 withHalves rs c t = puts rs ((c ≔ halfHigh (halfCodeOf t)) ∷ (lowByte c ≔ halfLow (halfCodeOf t)) ∷ [])

@@ -1,5 +1,5 @@
-// What a sample stores, in place on the registers' slice, and whether it is taken at all: seven codes, three temperatures and
-// three counts by the divisors now set; answers 3 and 4.
+// What a sample stores, in place on the registers' slice, and whether it is taken at all:
+// seven codes, three temperatures and three counts by the divisors now set; answers 3 and 4.
 ghost use mathlib.Core.Path.{_≡_};
 ghost use Prim.Native.Nat.{_≤_};
 ghost use lib.ListN.{length};
@@ -27,12 +27,19 @@ use w83782d_layout::samples::Sample;
 use w83782d_map::CELLS;
 use w83782d_map::CONFIGURATION;
 use w83782d_map::FAN_COUNTS;
+use w83782d_map::MINUS_5;
+use w83782d_map::MINUS_12;
 use w83782d_map::PIN_CONTROL;
+use w83782d_map::PLUS_3_3;
+use w83782d_map::PLUS_5;
+use w83782d_map::PLUS_12;
 use w83782d_map::SENSOR_1;
 use w83782d_map::SENSOR_2;
 use w83782d_map::SENSOR_3;
 use w83782d_map::VBAT_FAN_DIVISOR;
+use w83782d_map::VCOREA;
 use w83782d_map::VID_FAN_DIVISOR;
+use w83782d_map::VINR0;
 
 // ---- Readings
 
@@ -92,13 +99,13 @@ fn store_codes(s: &mut [u8], x: Sample)
     requires { ⌜ length (now s) ≡ cells ⌝ }
     ensures { λ r. ⌜ now (s .exit) ≡ withCodes (now (s .entry)) x ⌝ }
 {
-    s[0] = x.codes[0];
-    s[1] = x.codes[1];
-    s[2] = x.codes[2];
-    s[3] = x.codes[3];
-    s[4] = x.codes[4];
-    s[5] = x.codes[5];
-    s[6] = x.codes[6];
+    s[VCOREA] = x.codes[0];
+    s[VINR0] = x.codes[1];
+    s[PLUS_3_3] = x.codes[2];
+    s[PLUS_5] = x.codes[3];
+    s[PLUS_12] = x.codes[4];
+    s[MINUS_12] = x.codes[5];
+    s[MINUS_5] = x.codes[6];
     s[SENSOR_1] = whole_code(x.sensor1);
 }
 

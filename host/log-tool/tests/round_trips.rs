@@ -1,4 +1,4 @@
-//! From scripts to logs and back, with the second program as the judge.
+//! From scripts to logs and back, held to the second program.
 
 mod common;
 

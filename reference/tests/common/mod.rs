@@ -2,6 +2,8 @@
 //! the papers, apart from the program under test.
 #![allow(dead_code)]
 
+pub mod w83l784r;
+
 use reference::w83782d::{Monitor, Sample};
 use reference::Mark;
 
@@ -33,11 +35,29 @@ impl Rng {
         self.below(2) == 1
     }
 
+    /// An undivided count, spread over all sizes.
+    pub fn count(&mut self) -> u32 {
+        let shift = self.below(33);
+        ((self.next() >> 32) >> shift) as u32
+    }
+
     pub fn mark(&mut self) -> Mark {
         if self.coin() {
             Mark::Hot
         } else {
             Mark::Armed
+        }
+    }
+}
+
+/// A speed to plan, spread over all sizes, at times one to be refused.
+pub fn any_speed(rng: &mut Rng) -> u32 {
+    match rng.below(12) {
+        0 => 0,
+        1 => 1_350_001 + rng.below(1 << 20) as u32,
+        _ => {
+            let shift = rng.below(21);
+            (1 + (((rng.next() >> 32) % 1_350_000) >> shift)) as u32
         }
     }
 }
@@ -75,8 +95,7 @@ pub fn any_sample(rng: &mut Rng) -> Sample {
     }
     let mut u = [0; 3];
     for count in u.iter_mut() {
-        let shift = rng.below(33);
-        *count = ((rng.next() >> 32) >> shift) as u32;
+        *count = rng.count();
     }
     Sample {
         codes,

@@ -21,7 +21,8 @@ returns : tie.Need-returns
 returns c =
     let s = c .before .before in
     let z = s .args .halves in
-    let o : outside z ≡ true = sym (c .before .is-outside .ensures ∙ ap outside (toZ-ofZ w16 z (s .fits .halves))) ∙ c .if1 .taken in
+    let o : outside z ≡ true =
+    sym (c .before .is-outside .ensures ∙ ap outside (toZ-ofZ w16 z (s .fits .halves))) ∙ c .if1 .taken in
     half-answered z _ (half-out z o)
 
 code-of-requires : tie.Need-code-of-requires

@@ -11,7 +11,8 @@ use borrow.Author.Tests.{leb-true, le-leb, lt-leb, lt-ltb}
 use Rattle.bits.specs.Bits.{choose}
 use Rattle.analog.specs.declared.voltages.Reading.{Reading}
 use Rattle.analog.specs.declared.voltages.Reading.the-variants.{Millivolts, Refused}
-use Rattle.analog.specs.Readings.{nearestZ, reading, readingAnswer, isResistor, railOf, millivoltsOf, answerFor, VoltageAnswers}
+use Rattle.analog.specs.Readings.{nearestZ, reading, readingAnswer, isResistor}
+use Rattle.analog.specs.Readings.{railOf, millivoltsOf, answerFor, VoltageAnswers}
 use Rattle.numbers.specs.Rounding.{nearest}
 use Rattle.numbers.proofs.rounding.Quotients.{nearest-le}
 use Rattle.numbers.proofs.Signs.{minus-is, plus-is}
@@ -50,7 +51,8 @@ rail-le c a b h p q = mul-le-mul {n₂ = 4080} {m₂ = 2000} (omega arith) (omeg
 module _ (c r5 r6 : ℕ) where
   pub first-refused : isResistor r5 ≡ false → Refused ≡ railOf c r5 r6
   unfolding railOf
-  first-refused e = sym (ap (λ (t : Bool). choose (t && isResistor r6) (reading (16 * c * (r5 + r6)) (3600 * r5) r6) Refused) e)
+  first-refused e =
+      sym (ap (λ (t : Bool). choose (t && isResistor r6) (reading (16 * c * (r5 + r6)) (3600 * r5) r6) Refused) e)
 
   abbrev by : Bool → Bool → Reading
   by s t = choose (s && t) (reading (16 * c * (r5 + r6)) (3600 * r5) r6) Refused
@@ -59,7 +61,8 @@ module _ (c r5 r6 : ℕ) where
   unfolding railOf
   second-refused p q = sym (ap₂ by p q)
 
-  pub railed : isResistor r5 ≡ true → isResistor r6 ≡ true → {z : ℤ} → z ≡ nearestZ (pos (16 * c * (r5 + r6)) -ℤ pos (3600 * r5)) r6 → Millivolts z ≡ railOf c r5 r6
+  pub railed : isResistor r5 ≡ true → isResistor r6 ≡ true → {z : ℤ}
+      → z ≡ nearestZ (pos (16 * c * (r5 + r6)) -ℤ pos (3600 * r5)) r6 → Millivolts z ≡ railOf c r5 r6
   unfolding railOf
   railed p q e = ap Millivolts e ∙ sym (ap₂ by p q)
 
@@ -80,7 +83,8 @@ module _ (c r5 r6 : ℕ) where
   unfolding millivoltsOf
   plus-12 channel e = rw e
 
-  pub negative : (channel : ℕ) → 3 ≤ channel → (channel ≡ 3 → ⊥) → (channel ≡ 4 → ⊥) → channel < 7 → railOf c r5 r6 ≡ millivoltsOf channel c r5 r6
+  pub negative : (channel : ℕ) → 3 ≤ channel → (channel ≡ 3 → ⊥) → (channel ≡ 4 → ⊥) → channel < 7
+      → railOf c r5 r6 ≡ millivoltsOf channel c r5 r6
   unfolding millivoltsOf
   negative zero l n m h = absurd (omega arith)
   negative (suc zero) l n m h = absurd (omega arith)
@@ -107,7 +111,8 @@ rail-answer : (c r5 r6 : ℕ) → readingAnswer (railOf c r5 r6) ≡ choose (not
 unfolding railOf
 rail-answer c r5 r6 = go (isResistor r5 && isResistor r6)
   where
-    go : (t : Bool) → readingAnswer (choose t (reading (16 * c * (r5 + r6)) (3600 * r5) r6) Refused) ≡ choose (not t) 7 0
+    go : (t : Bool)
+        → readingAnswer (choose t (reading (16 * c * (r5 + r6)) (3600 * r5) r6) Refused) ≡ choose (not t) 7 0
     go true = refl
     go false = refl
 

@@ -45,10 +45,12 @@ digits-touch : (ps : List Place) (v k j : ℕ) → j < 8 → touches (digitsOf p
 unfolding digitsOf touches isIn
 digits-touch [] v k j hj = refl
 digits-touch (p ∷ ps) v k j hj =
-    ap₂ (λ (x y : Bool). (eqb k (p .cell) && x) || y) (pow-bit (numberOf (p .bit)) j (number-lt (p .bit)) hj) (digits-touch ps (v / 2) k j hj)
+    ap₂ (λ (x y : Bool). (eqb k (p .cell) && x) || y) (pow-bit (numberOf (p .bit)) j (number-lt (p .bit)) hj)
+    (digits-touch ps (v / 2) k j hj)
 
 pub replace-keeps : ReplaceKeeps
-replace-keeps rs ps v k j hj e = changes-keep rs (digitsOf ps v) k j (digits-masks ps v) hj (digits-touch ps v k j hj ∙ e)
+replace-keeps rs ps v k j hj e =
+    changes-keep rs (digitsOf ps v) k j (digits-masks ps v) hj (digits-touch ps v k j hj ∙ e)
 
 -- the digits of a value make it up again
 digit-sum : (v n : ℕ) → v % 2 + 2 * (v / 2 % 2 ^ n) ≡ v % 2 ^ suc n
@@ -63,11 +65,14 @@ gather-gives-back rs (p ∷ ps) v d i =
     let hm : 2 ^ numberOf (p .bit) < 256 = pow-byte (numberOf (p .bit)) hj in
     let next = one rs (p .cell) (2 ^ j) (v % 2 * 2 ^ j) hm in
     let first : bit (getD (replaceOf next ps (v / 2)) (p .cell) 0) (numberOf (p .bit)) ≡ v % 2 =
-    replace-keeps next ps (v / 2) (p .cell) j hj (not-true (isIn ps (p .cell) j) (and-left (not (isIn ps (p .cell) j)) (distinct ps) d))
-    ∙ one-given rs (p .cell) (2 ^ j) (v % 2 * 2 ^ j) hm j (ltb-true (p .cell) (length rs) (and-left (ltb (p .cell) (length rs)) (inside (length rs) ps) i)) hj (pow-has j hj)
+    replace-keeps next ps (v / 2) (p .cell) j hj
+    (not-true (isIn ps (p .cell) j) (and-left (not (isIn ps (p .cell) j)) (distinct ps) d))
+    ∙ one-given rs (p .cell) (2 ^ j) (v % 2 * 2 ^ j) hm j
+    (ltb-true (p .cell) (length rs) (and-left (ltb (p .cell) (length rs)) (inside (length rs) ps) i)) hj (pow-has j hj)
     ∙ bit-placed (v % 2) j (mod-lt v (lit< tt)) hj in
     let rest : gatherOf (replaceOf next ps (v / 2)) ps ≡ v / 2 % 2 ^ length ps =
-    gather-gives-back next ps (v / 2) (and-right (not (isIn ps (p .cell) j)) (distinct ps) d) (rw (length-set rs (p .cell)) (and-right (ltb (p .cell) (length rs)) (inside (length rs) ps) i)) in
+    gather-gives-back next ps (v / 2) (and-right (not (isIn ps (p .cell) j)) (distinct ps) d)
+    (rw (length-set rs (p .cell)) (and-right (ltb (p .cell) (length rs)) (inside (length rs) ps) i)) in
     ap₂ (λ (x y : ℕ). x + 2 * y) first rest ∙ digit-sum v (length ps)
 
 pub other-stays : OtherStays
@@ -76,7 +81,8 @@ other-stays rs ps [] v e = refl
 other-stays rs ps (q ∷ qs) v e =
     let j = numberOf (q .bit) in
     ap₂ (λ (x y : ℕ). x + 2 * y)
-    (replace-keeps rs ps v (q .cell) j (number-lt (q .bit)) (not-true (isIn ps (q .cell) j) (and-left (not (isIn ps (q .cell) j)) (apart ps qs) e)))
+    (replace-keeps rs ps v (q .cell) j (number-lt (q .bit))
+    (not-true (isIn ps (q .cell) j) (and-left (not (isIn ps (q .cell) j)) (apart ps qs) e)))
     (other-stays rs ps qs v (and-right (not (isIn ps (q .cell) j)) (apart ps qs) e))
 
 -- ---- what the functions compute, in the words of the definitions
@@ -90,18 +96,28 @@ digit-lt x n j e = rw e (bit-lt n j)
 joined : ℕ → ℕ → ℕ → Bool
 joined x y z = eqb (bitOr (bitOr x (y * 2 % 256)) (z * 4 % 256)) (x + 2 * (y + 2 * (z + 2 * 0)))
 
-pub gather-in : (rs : List ℕ) (p q r : Place) (x y z : ℕ) → x ≡ bit (getD rs (p .cell) 0) (numberOf (p .bit)) → y ≡ bit (getD rs (q .cell) 0) (numberOf (q .bit))
-    → z ≡ bit (getD rs (r .cell) 0) (numberOf (r .bit)) → bitOr (bitOr x (y * 2 % 256)) (z * 4 % 256) ≡ gatherOf rs (p ∷ q ∷ r ∷ [])
+pub gather-in : (rs : List ℕ) (p q r : Place) (x y z : ℕ) → x ≡ bit (getD rs (p .cell) 0) (numberOf (p .bit))
+    → y ≡ bit (getD rs (q .cell) 0) (numberOf (q .bit))
+    → z ≡ bit (getD rs (r .cell) 0) (numberOf (r .bit))
+    → bitOr (bitOr x (y * 2 % 256)) (z * 4 % 256) ≡ gatherOf rs (p ∷ q ∷ r ∷ [])
 unfolding gatherOf joined
 gather-in rs p q r x y z ex ey ez =
     eqb→eq _ _
-    (every-at (joined x y) 2 (every-at2 (λ a b. every (joined a b) 2) 2 2 tt x y (digit-lt _ _ _ ex) (digit-lt _ _ _ ey)) z (digit-lt _ _ _ ez))
+    (every-at (joined x y) 2
+    (every-at2 (λ a b. every (joined a b) 2) 2 2 tt x y (digit-lt _ _ _ ex) (digit-lt _ _ _ ey)) z (digit-lt _ _ _ ez))
     ∙ rw (ex, ey, ez)
 
-pub put-in : (rs ts : List ℕ) (cell d n : ℕ) (b : Bit) → n ≡ numberOf b → ts ≡ changes rs (change cell (1 * 2 ^ n % 256) (bitAnd d 1 * 2 ^ n % 256) ∷ [])
+pub put-in : (rs ts : List ℕ) (cell d n : ℕ) (b : Bit) → n ≡ numberOf b
+    → ts ≡ changes rs (change cell (1 * 2 ^ n % 256) (bitAnd d 1 * 2 ^ n % 256) ∷ [])
     → ts ≡ changes rs (change cell (2 ^ numberOf b) (d % 2 * 2 ^ numberOf b) ∷ [])
 put-in rs ts cell d n b en et =
-    et ∙ rw (en, low-digit, shifted 1 (numberOf b) (lit< tt) (number-lt b), shifted (d % 2) (numberOf b) (mod-lt d (lit< tt)) (number-lt b), one-mul)
+    et ∙ rw (
+      en,
+      low-digit,
+      shifted 1 (numberOf b) (lit< tt) (number-lt b),
+      shifted (d % 2) (numberOf b) (mod-lt d (lit< tt)) (number-lt b),
+      one-mul,
+    )
 
 pub replace-in : (rs s t u : List ℕ) (p q r : Place) (v : ℕ)
     → s ≡ changes rs (change (p .cell) (2 ^ numberOf (p .bit)) (v % 2 * 2 ^ numberOf (p .bit)) ∷ [])

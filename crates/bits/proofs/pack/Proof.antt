@@ -30,7 +30,17 @@ flag-requires-8 : tie.Need-flag-requires-8
 flag-requires-8 c κs = search needs
 
 returns : tie.Need-returns
-returns c = simp (c .before .before .before .before .before .before .before .flag .ensures, c .before .before .before .before .before .before .flag2 .ensures, c .before .before .before .before .before .flag3 .ensures, c .before .before .before .before .flag4 .ensures, c .before .before .before .flag5 .ensures, c .before .before .flag6 .ensures, c .before .flag7 .ensures, c .flag8 .ensures) (pack-law _ _ _ _ _ _ _ _)
+returns c =
+    simp (
+      c .before .before .before .before .before .before .before .flag .ensures,
+      c .before .before .before .before .before .before .flag2 .ensures,
+      c .before .before .before .before .before .flag3 .ensures,
+      c .before .before .before .before .flag4 .ensures,
+      c .before .before .before .flag5 .ensures,
+      c .before .before .flag6 .ensures,
+      c .before .flag7 .ensures,
+      c .flag8 .ensures,
+    ) (pack-law _ _ _ _ _ _ _ _)
 
 pub pack-spec : {M : Type 1} → statement M
 pack-spec =

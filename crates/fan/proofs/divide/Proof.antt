@@ -26,7 +26,8 @@ cast-t7 c = search needs
 returns : tie.Need-returns
 returns c =
     let a = c .before .before in
-    below-cap (a .before .args .u .0) (a .value .result) (valueOf (a .before .args .divisor)) (a .value .ensures) (omega arith)
+    below-cap (a .before .args .u .0) (a .value .result) (valueOf (a .before .args .divisor)) (a .value .ensures)
+    (omega arith)
 
 returns-2 : tie.Need-returns-2
 returns-2 c = at-cap _ _ _ (c .before .before .value .ensures) (c .if1 .left)

@@ -1,7 +1,8 @@
--- The best choice of the divisors up to an exponent has the largest product within k, and of equals the smallest divisor.
--- By induction: one more divisor is taken only for a larger product. Assumes nothing.
+-- The best choice of the divisors up to an exponent has the largest product within k, and of equals the
+-- smallest divisor. By induction: one more divisor is taken only for a larger product. Assumes nothing.
 use Prim.Native.Nat.{ℕ, zero, suc, _+_, _*_, _/_, _^_, _≤_, _<_}
-use native.Mathlib.Nat.{mul-le-mul-right, div-mul-le-self, le-div-iff-mul-le, le-min, min-le-left, min-le-right, le-trans, le-of-lt, le-of-eq, zero-mul}
+use native.Mathlib.Nat.{mul-le-mul-right, div-mul-le-self, le-div-iff-mul-le, le-min, min-le-left}
+use native.Mathlib.Nat.{min-le-right, le-trans, le-of-lt, le-of-eq, zero-mul}
 use native.Mathlib.Decide.{decLe}
 use native.Mathlib.Numerals.{add-one}
 use native.Mathlib.Omega.{arith}
@@ -34,7 +35,8 @@ pub record Best (k e : ℕ) (c : Choice) : Type 0 where
 
 -- the choice at a divisor is within k, and nothing with that divisor is larger
 at-within : (k : ℕ) (d : Divisor) → productOf (choiceAt k d) ≤ k
-at-within k d = le-trans (mul-le-mul-right (valueOf d) (min-le-right 255 (k / valueOf d))) (div-mul-le-self k (valueOf d))
+at-within k d =
+    le-trans (mul-le-mul-right (valueOf d) (min-le-right 255 (k / valueOf d))) (div-mul-le-self k (valueOf d))
 
 at-largest : (k m : ℕ) (d : Divisor) → m ≤ 255 → m * valueOf d ≤ k → m * valueOf d ≤ productOf (choiceAt k d)
 at-largest k m d h w = mul-le-mul-right (valueOf d) (le-min h (le-div-iff-mul-le (value-pos d) .1 w))
@@ -64,7 +66,8 @@ module _ (k e : ℕ) (c : Choice) (fits : suc e < 8) (b : Best k e c) where
             (λ p. at-exponent k m (suc e) j fits p hm hw) (le-or j e hj);
         smallest = λ j m hj hm s. ⊎-elim
             (λ p.
-            let low : m * 2 ^ j ≤ productOf c = b .largest j m p hm (le-trans (le-of-eq s) (at-within k (fromBits (suc e)))) in
+            let low : m * 2 ^ j ≤ productOf c =
+            b .largest j m p hm (le-trans (le-of-eq s) (at-within k (fromBits (suc e)))) in
             absurd (omega arith))
             (λ p. le-of-eq (value-from-bits (suc e) fits ∙ sym (ap (λ (x : ℕ). 2 ^ x) p))) (le-or j e hj);
       }
@@ -104,7 +107,8 @@ unfolding bestTo
 bestTo-suc k e = refl
 
 -- a turn of the loop
-pub one-more : (k e : ℕ) (b n : Choice) (d : Divisor) → b ≡ bestTo k e → d ≡ fromBits (e + 1) → n ≡ better k b d → n ≡ bestTo k (e + 1)
+pub one-more : (k e : ℕ) (b n : Choice) (d : Divisor) → b ≡ bestTo k e → d ≡ fromBits (e + 1) → n ≡ better k b d
+    → n ≡ bestTo k (e + 1)
 one-more k e b n d eb ed en = en ∙ rw (eb, ed, add-one) (sym (bestTo-suc k e))
 
 -- the best choice of the eight
@@ -118,11 +122,18 @@ counts-pos k h = go (bestTo k 7 .counts) refl
     p = best-of-eight k .largest 0 1 (omega arith) (omega arith) h
 
     go : (n : ℕ) → bestTo k 7 .counts ≡ n → 0 < bestTo k 7 .counts
-    go zero q = absurd (omega (arith, p, ap (λ (x : ℕ). x * valueOf (bestTo k 7 .divisor)) q ∙ zero-mul (valueOf (bestTo k 7 .divisor))))
+    go zero q =
+        absurd (omega (
+          arith,
+          p,
+          ap (λ (x : ℕ). x * valueOf (bestTo k 7 .divisor)) q
+              ∙ zero-mul (valueOf (bestTo k 7 .divisor)),
+        ))
     go (suc n) q = omega arith
 
 -- the two ways through the code of one comparison
-module _ (k : ℕ) (best next : Choice) (d : Divisor) (p q : ℕ) (n : next ≡ choiceAt k d) (hp : p ≡ productOf best) (hq : q ≡ productOf next) where
+module _ (k : ℕ) (best next : Choice) (d : Divisor) (p q : ℕ) (n : next ≡ choiceAt k d) (hp : p ≡ productOf best)
+    (hq : q ≡ productOf next) where
   same-product : q ≡ productOf (choiceAt k d)
   same-product = hq ∙ ap (λ (c : Choice). productOf c) n
 

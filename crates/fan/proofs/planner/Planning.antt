@@ -1,5 +1,6 @@
 -- The plan computed is the plan that specs/Plan describes, and what is claimed of every plan holds.
--- A limit below 255 rings from (L+1)d up, the plan's product is the largest not above K, and w itself counts K. Assumes nothing.
+-- A limit below 255 rings from (L+1)d up, the plan's product is the largest not above K,
+-- and w itself counts K. Assumes nothing.
 use Prim.Native.Nat.{ℕ, _+_, _-_, _*_, _/_, _^_, _≤_, _<_}
 use native.Mathlib.Nat.{mul-le-mul, mul-div-cancel, div-zero, le-div-iff-mul-le, le-trans, le-of-eq, le-antisymm}
 use native.Mathlib.Omega.{arith}
@@ -40,10 +41,12 @@ module _ (w : ℕ) (pos : 1 ≤ asked w) where
         largest = λ e m i hm hw.
             let p : ringsFrom e m ≡ (m + 1) * 2 ^ i .exponent = ap (λ (x : ℕ). (m + 1) * x) (i .power) in
             le-trans (le-of-eq p)
-            (le-trans (b .largest (i .exponent) (m + 1) (omega (arith, i .three-bits)) (omega arith) (le-trans (le-of-eq (sym p)) hw)) (le-of-eq (sym same)));
+            (le-trans (b .largest (i .exponent) (m + 1) (omega (arith, i .three-bits)) (omega arith)
+            (le-trans (le-of-eq (sym p)) hw)) (le-of-eq (sym same)));
         smallest = λ e m i hm s.
             let p : ringsFrom e m ≡ (m + 1) * 2 ^ i .exponent = ap (λ (x : ℕ). (m + 1) * x) (i .power) in
-            le-trans (b .smallest (i .exponent) (m + 1) (omega (arith, i .three-bits)) (omega arith) (sym p ∙ s ∙ same)) (le-of-eq (sym (i .power)));
+            le-trans (b .smallest (i .exponent) (m + 1) (omega (arith, i .three-bits)) (omega arith) (sym p ∙ s ∙ same))
+            (le-of-eq (sym (i .power)));
       }
 
 -- a speed that the table doesn't refuse
@@ -71,9 +74,11 @@ plan-of-is w = go (isNoSpeed w) refl
 plan-unique : (w l m : ℕ) (d e : Divisor) → IsPlan w (valueOf d) l → IsPlan w (valueOf e) m → Plan d l ≡ Plan e m
 plan-unique w l m d e p q =
     let s : ringsFrom (valueOf d) l ≡ ringsFrom (valueOf e) m =
-    le-antisymm (q .largest (valueOf d) l (value-is d) (p .limit) (p .within)) (p .largest (valueOf e) m (value-is e) (q .limit) (q .within)) in
+    le-antisymm (q .largest (valueOf d) l (value-is d) (p .limit) (p .within))
+    (p .largest (valueOf e) m (value-is e) (q .limit) (q .within)) in
     let v : valueOf d ≡ valueOf e =
-    le-antisymm (p .smallest (valueOf e) m (value-is e) (q .limit) (sym s)) (q .smallest (valueOf d) l (value-is d) (p .limit) s) in
+    le-antisymm (p .smallest (valueOf e) m (value-is e) (q .limit) (sym s))
+    (q .smallest (valueOf d) l (value-is d) (p .limit) s) in
     let n : l + 1 ≡ m + 1 =
     sym (mul-div-cancel (l + 1) (value-pos d)) ∙ ap₂ (λ (x y : ℕ). x / y) s v ∙ mul-div-cancel (m + 1) (value-pos e) in
     ap₂ Plan (value-inj d e v) (omega arith)
@@ -88,17 +93,25 @@ unique w Refused Refused a b = refl
 nonzero : {w d l : ℕ} → IsPlan w d l → w ≡ 0 → ⊥
 nonzero {w} {d} {l} p z =
     let none : asked w ≡ 0 = ap (λ (x : ℕ). perMinute / x) z ∙ div-zero perMinute in
-    omega (arith, p .within, mul-le-mul {n₁ = 1} {m₁ = 1} {n₂ = l + 1} {m₂ = d} (omega arith) (divisor-pos (p .divisor)))
+    omega (
+      arith,
+      p .within,
+      mul-le-mul {n₁ =
+          1} {m₁ = 1} {n₂ = l + 1} {m₂ = d} (omega arith) (divisor-pos (p .divisor)),
+    )
 
 pub plans-hold : Plans
 plans-hold =
     record {
       unique = unique;
       exact = λ w d l p u. rings-as-planned d l u (divisor-pos (p .divisor)) (p .limit);
-      covers = λ w d l p a b hb h. le-ring d l (countOf a b) (divisor-pos (p .divisor)) (p .limit) (le-trans (p .within) (count-ge w a b hb h));
+      covers =
+          λ w d l p a b hb h. le-ring d l (countOf a b) (divisor-pos (p .divisor)) (p .limit)
+          (le-trans (p .within) (count-ge w a b hb h));
       least = λ w d l p e m i hm cov a b hb r.
           let at : ringsAt e m (countOf w 1) ≡ true = cov w 1 (omega arith) (omega arith) in
-          let from : ringsFrom e m ≤ asked w = le-trans (ring-le e m (countOf w 1) (divisor-pos i) at) (count-le w (nonzero p)) in
+          let from : ringsFrom e m ≤ asked w =
+          le-trans (ring-le e m (countOf w 1) (divisor-pos i) at) (count-le w (nonzero p)) in
           let small : m ≤ 254 = below e m (countOf w 1) at in
           le-ring e m (countOf a b) (divisor-pos i) small
           (le-trans (p .largest e m i small from) (ring-le d l (countOf a b) (divisor-pos (p .divisor)) r));

@@ -1,7 +1,8 @@
 -- When a divisor and a limit ring: division rounds down, so n <= u / d is n d <= u.
 -- Assumes nothing.
 use Prim.Native.Nat.{ℕ, _+_, _*_, _/_, _≤_, _<_, min}
-use native.Mathlib.Nat.{mul-le-mul-left, mul-le-mul-right, mul-assoc, div-mul-le-self, div-le-self, div-lt-iff-lt-mul, le-div-iff-mul-le, le-min, min-le-right, le-trans}
+use native.Mathlib.Nat.{mul-le-mul-left, mul-le-mul-right, mul-assoc, div-mul-le-self, div-le-self}
+use native.Mathlib.Nat.{div-lt-iff-lt-mul, le-div-iff-mul-le, le-min, min-le-right, le-trans}
 use native.Mathlib.Omega.{arith}
 use mathlib.Core.Path.{_≡_, refl}
 use mathlib.Core.Bool.{Bool, true, false}

@@ -54,7 +54,16 @@ cast-result-8 c = search needs
 returns : tie.Need-returns
 returns c =
     let x = c .before .before .before .before .before .before .before .before .args in
-    simp (c .before .before .before .before .before .before .before .flag .ensures, c .before .before .before .before .before .before .flag2 .ensures, c .before .before .before .before .before .flag3 .ensures, c .before .before .before .before .flag4 .ensures, c .before .before .before .flag5 .ensures, c .before .before .flag6 .ensures, c .before .flag7 .ensures, c .flag8 .ensures) (join-law (x .a) (x .b) (x .c) (x .d) (x .e) (x .f) (x .g) (x .h))
+    simp (
+      c .before .before .before .before .before .before .before .flag .ensures,
+      c .before .before .before .before .before .before .flag2 .ensures,
+      c .before .before .before .before .before .flag3 .ensures,
+      c .before .before .before .before .flag4 .ensures,
+      c .before .before .before .flag5 .ensures,
+      c .before .before .flag6 .ensures,
+      c .before .flag7 .ensures,
+      c .flag8 .ensures,
+    ) (join-law (x .a) (x .b) (x .c) (x .d) (x .e) (x .f) (x .g) (x .h))
 
 pub join-spec : {M : Type 1} → statement M
 join-spec =

@@ -45,7 +45,8 @@ returns c =
     let third = fourth .before .before .before .before in
     let second = third .before .before .before .before in
     let first = second .before .before .before .before in
-    put-four (first .before .before .before .args .s .now) _ _ _ _ _ _ (first .put .ensures) (second .put2 .ensures) (third .put3 .ensures) (fourth .put4 .ensures)
+    put-four (first .before .before .before .args .s .now) _ _ _ _ _ _ (first .put .ensures) (second .put2 .ensures)
+    (third .put3 .ensures) (fourth .put4 .ensures)
 
 pub put-four-spec : {M : Type 1} → statement M
 put-four-spec =

@@ -13,7 +13,8 @@ use Rattle.fan.specs.Plan.{planAnswer}
 use Rattle.fan.specs.declared.planner.Planned.{Planned}
 use Rattle.fan.specs.declared.planner.Planned.the-variants.{Plan}
 
-pub plan-put : (rs ss ts : List ℕ) (c l : ℕ) (d : Divisor) (p : Field) (q : Planned) → ss ≡ changes rs (change c 0xFF l ∷ [])
+pub plan-put : (rs ss ts : List ℕ) (c l : ℕ) (d : Divisor) (p : Field) (q : Planned)
+    → ss ≡ changes rs (change c 0xFF l ∷ [])
     → ts ≡ withDivisor ss (placesOf p) d → q ≡ Plan d l → ts ≡ plannedRegisters rs (fanAt c (placesOf p)) q
 unfolding withDivisor changes
 plan-put rs ss ts c l d p q e h k = rw (h, e, k)

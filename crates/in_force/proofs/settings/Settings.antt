@@ -31,11 +31,12 @@ use Rattle.fan.specs.Search.{planOf}
 use Rattle.fan.specs.declared.planner.Planned.{Planned}
 use Rattle.fan.specs.declared.planner.Planned.the-variants.{Plan, Refused}
 use Rattle.fan.proofs.planner.Planning.{plan-of-is}
-use Rattle.in_force.specs.Settings.{Fan, fanAt, limitIn, divisorIn, settings, setAnswer, hasCell, isSound, isApart}
+use Rattle.in_force.specs.Settings.{Fan, fanAt, limitIn, divisorIn, settings}
+use Rattle.in_force.specs.Settings.{setAnswer, hasCell, isSound, isApart}
 use Rattle.in_force.specs.SettingsClaims.{PlanSet}
 
--- ---- computed: a fan whose divisor bits share their cells with others', as fan 1 of the W83782D has them, is given a plan where
--- every bit is 1, and where every bit is 0
+-- ---- computed: a fan whose divisor bits share their cells with others', as fan 1 of the
+-- W83782D has them, is given a plan where every bit is 1, and where every bit is 0
 abbrev at : ℕ → Bit → Place
 at c b = record { cell = c; bit = b }
 
@@ -93,7 +94,9 @@ apart-parts f g e =
     let e₁ = and-right a (b && (c && d)) e in
     let e₂ = and-right b (c && d) e₁ in
     record {
-      limits = λ q. eqb-false (f .limit) (g .limit) (not-true (eqb (f .limit) (g .limit)) (and-left a (b && (c && d)) e)) (sym q);
+      limits =
+          λ q. eqb-false (f .limit) (g .limit) (not-true (eqb (f .limit) (g .limit)) (and-left a (b && (c && d)) e))
+          (sym q);
       limit = not-true (hasCell (f .places) (g .limit)) (and-left b (c && d) e₁);
       bits = not-true (hasCell (g .places) (f .limit)) (and-left c d e₂);
       places = and-right c d e₂;
@@ -104,33 +107,40 @@ pub is-true : (b : Bool) → T b → b ≡ true
 is-true true t = refl
 is-true false t = absurd t
 
-pub all-sound : (c n : ℕ) (fan : ℕ → Fan) → T (every (λ f. isSound c (fan (suc f))) n) → (f : ℕ) → 1 ≤ f → f ≤ n → isSound c (fan f) ≡ true
+pub all-sound : (c n : ℕ) (fan : ℕ → Fan) → T (every (λ f. isSound c (fan (suc f))) n) → (f : ℕ) → 1 ≤ f → f ≤ n
+    → isSound c (fan f) ≡ true
 all-sound c n fan t zero h h′ = absurd (omega arith)
-all-sound c n fan t (suc f) h h′ = is-true (isSound c (fan (suc f))) (every-at (λ g. isSound c (fan (suc g))) n t f (omega arith))
+all-sound c n fan t (suc f) h h′ =
+    is-true (isSound c (fan (suc f))) (every-at (λ g. isSound c (fan (suc g))) n t f (omega arith))
 
-pub all-apart : (n : ℕ) (fan : ℕ → Fan) → T (every (λ f. every (λ g. eqb f g || isApart (fan (suc f)) (fan (suc g))) n) n)
+pub all-apart : (n : ℕ) (fan : ℕ → Fan)
+    → T (every (λ f. every (λ g. eqb f g || isApart (fan (suc f)) (fan (suc g))) n) n)
     → (f g : ℕ) → 1 ≤ f → f ≤ n → 1 ≤ g → g ≤ n → f ≢ g → isApart (fan f) (fan g) ≡ true
 all-apart n fan t zero g h h′ k k′ ne = absurd (omega arith)
 all-apart n fan t (suc f) zero h h′ k k′ ne = absurd (omega arith)
 all-apart n fan t (suc f) (suc g) h h′ k k′ ne =
     let e : (eqb f g || isApart (fan (suc f)) (fan (suc g))) ≡ true =
-    is-true _ (every-at2 (λ f g. eqb f g || isApart (fan (suc f)) (fan (suc g))) n n t f g (omega arith) (omega arith)) in
+    is-true _ (every-at2 (λ f g. eqb f g || isApart (fan (suc f)) (fan (suc g))) n n t f g (omega arith)
+    (omega arith)) in
     simp (ne-eqb f g (λ q. ne (ap suc q))) at e
 
 -- ---- a field's cells, and no other
-replace-other : (ps : List Place) (rs : List ℕ) (v c : ℕ) → hasCell ps c ≡ false → getD (replaceOf rs ps v) c 0 ≡ getD rs c 0
+replace-other : (ps : List Place) (rs : List ℕ) (v c : ℕ) → hasCell ps c ≡ false
+    → getD (replaceOf rs ps v) c 0 ≡ getD rs c 0
 unfolding changes digitsOf hasCell
 replace-other [] rs v c n = refl
 replace-other (p ∷ ps) rs v c n =
     replace-other ps _ (v / 2) c (or-right (eqb c (p .cell)) (hasCell ps c) n)
     ∙ getD-set-other rs (p .cell) c _ 0 (eqb-false c (p .cell) (or-left (eqb c (p .cell)) (hasCell ps c) n))
 
-gather-other : (ps : List Place) (rs : List ℕ) (c b : ℕ) → hasCell ps c ≡ false → gatherOf (set rs c b) ps ≡ gatherOf rs ps
+gather-other : (ps : List Place) (rs : List ℕ) (c b : ℕ) → hasCell ps c ≡ false
+    → gatherOf (set rs c b) ps ≡ gatherOf rs ps
 unfolding gatherOf hasCell
 gather-other [] rs c b n = refl
 gather-other (p ∷ ps) rs c b n =
     ap₂ (λ (x y : ℕ). bit x (numberOf (p .bit)) + 2 * y)
-    (getD-set-other rs c (p .cell) b 0 (λ e. eqb-false c (p .cell) (or-left (eqb c (p .cell)) (hasCell ps c) n) (sym e)))
+    (getD-set-other rs c (p .cell) b 0
+    (λ e. eqb-false c (p .cell) (or-left (eqb c (p .cell)) (hasCell ps c) n) (sym e)))
     (gather-other ps rs c b (or-right (eqb c (p .cell)) (hasCell ps c) n))
 
 -- a field of k bits is below 2^k
@@ -144,14 +154,17 @@ unfolding mergeOf
 merge-whole o l h = rw (and-zero-r, or-zero-l (bitAnd l 255)) (and-mask l 8 ∙ mod-eq-of-lt h)
 
 -- the divisor that is set is the three bits that are gathered
-pub divisor-of-bits : (rs : List ℕ) (f : Fan) (d : Divisor) → gatherOf rs (f .places) ≡ exponentOf d → divisorIn rs f ≡ d
+pub divisor-of-bits : (rs : List ℕ) (f : Fan) (d : Divisor) → gatherOf rs (f .places) ≡ exponentOf d
+    → divisorIn rs f ≡ d
 unfolding divisorAt
 divisor-of-bits rs f d e = ap fromBits e ∙ from-exponent d
 
-pub bits-of-divisor : (n : ℕ) (rs : List ℕ) (f : Fan) (d : Divisor) → Sound n f → divisorIn rs f ≡ d → gatherOf rs (f .places) ≡ exponentOf d
+pub bits-of-divisor : (n : ℕ) (rs : List ℕ) (f : Fan) (d : Divisor) → Sound n f → divisorIn rs f ≡ d
+    → gatherOf rs (f .places) ≡ exponentOf d
 unfolding divisorAt
 bits-of-divisor n rs f d s e =
-    let lt : gatherOf rs (f .places) < 8 = subst (λ (k : ℕ). gatherOf rs (f .places) < 2 ^ k) (s .three) (gather-lt rs (f .places)) in
+    let lt : gatherOf rs (f .places) < 8 =
+    subst (λ (k : ℕ). gatherOf rs (f .places) < 2 ^ k) (s .three) (gather-lt rs (f .places)) in
     sym (mod-eq-of-lt lt) ∙ sym (exponent-of-bits (gatherOf rs (f .places))) ∙ ap exponentOf e
 
 -- ---- the settings put
@@ -177,7 +190,8 @@ module _ (rs : List ℕ) (f : Fan) (d : Divisor) (l : ℕ) where
       ∙ getD-set-other rs (f .limit) c _ 0 n
 
   -- and of those only the field's bits
-  put-keeps : (c j : ℕ) → j < 8 → eqb c (f .limit) ≡ false → isIn (f .places) c j ≡ false → bit (getD put c 0) j ≡ bit (getD rs c 0) j
+  put-keeps : (c j : ℕ) → j < 8 → eqb c (f .limit) ≡ false → isIn (f .places) c j ≡ false
+      → bit (getD put c 0) j ≡ bit (getD rs c 0) j
   put-keeps c j h n i =
       ap (λ (ts : List ℕ). bit (getD ts c 0) j) put-is
       ∙ replace-keeps limited (f .places) (exponentOf d) c j h i
@@ -213,7 +227,8 @@ module _ (rs : List ℕ) (f : Fan) (d : Divisor) (l : ℕ) where
 pub is-plan : (w : ℕ) (d : Divisor) (l : ℕ) → planOf w ≡ Plan d l → IsPlan w (valueOf d) l
 is-plan w d l e = subst (IsPlanned w) e (plan-of-is w) .plan refl
 
-pub plan-set : (rs : List ℕ) (f : Fan) (w : ℕ) (d : Divisor) (l : ℕ) → Sound (length rs) f → planOf w ≡ Plan d l → PlanSet rs (put rs f d l) f w
+pub plan-set : (rs : List ℕ) (f : Fan) (w : ℕ) (d : Divisor) (l : ℕ) → Sound (length rs) f → planOf w ≡ Plan d l
+    → PlanSet rs (put rs f d l) f w
 plan-set rs f w d l s e =
     record {
       divisor = d;
@@ -236,7 +251,8 @@ pub record Accepted (n f w : ℕ) : Type 0 where
 pub accepted : (n f w : ℕ) → setAnswer n f w ≡ 0 → Accepted n f w
 accepted n f w =
     choose-ind (λ (a : ℕ). a ≡ 0 → Accepted n f w) (isBeyond n f) 7 (answerFor w) (λ _ z. absurd (omega arith))
-    (λ e z. by (planOf w) refl (plan-of-is w .answer ∙ z) (ltb-false f 1 (or-left (ltb f 1) (ltb n f) e)) (ltb-false n f (or-right (ltb f 1) (ltb n f) e)))
+    (λ e z. by (planOf w) refl (plan-of-is w .answer ∙ z) (ltb-false f 1 (or-left (ltb f 1) (ltb n f) e))
+    (ltb-false n f (or-right (ltb f 1) (ltb n f) e)))
   where
     by : (p : Planned) → planOf w ≡ p → planAnswer (planOf w) ≡ 0 → 1 ≤ f → f ≤ n → Accepted n f w
     by (Plan d l) e z h k = record { low = h; high = k; divisor = d; limit = l; planned = e }

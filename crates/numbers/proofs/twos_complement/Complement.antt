@@ -75,11 +75,13 @@ module _ (h a b : ℕ) (fa : a < 2 * h) (fb : b < 2 * h) where
   levels : ltb (levelOf h a) (levelOf h b) ≡ ltZ (signedOf h a) (signedOf h b)
   levels = go (ltb a h) (ltb b h) refl refl
     where
-      go : (s t : Bool) → ltb a h ≡ s → ltb b h ≡ t → ltb (levelOf h a) (levelOf h b) ≡ ltZ (signedOf h a) (signedOf h b)
+      go : (s t : Bool) → ltb a h ≡ s → ltb b h ≡ t
+          → ltb (levelOf h a) (levelOf h b) ≡ ltZ (signedOf h a) (signedOf h b)
       go true true p q =
           let la : a < h = ltb-true a h p in
           let lb : b < h = ltb-true b h q in
-          ap₂ ltb (level-low h a la) (level-low h b lb) ∙ agree (a + h) (b + h) a b (λ x. omega arith) (λ x. omega arith)
+          ap₂ ltb (level-low h a la) (level-low h b lb)
+          ∙ agree (a + h) (b + h) a b (λ x. omega arith) (λ x. omega arith)
           ∙ ap₂ ltZ (low-half h a la) (low-half h b lb)
       go true false p q =
           let la : a < h = ltb-true a h p in

@@ -1,5 +1,5 @@
--- `put_decimal` meets its contract: below 10 the number is one digit, and from 10 up its last digit is behind those of a
--- tenth of it, which the call of itself puts. The measure is the number. Assumes nothing.
+-- `put_decimal` meets its contract: below 10 the number is one digit, and from 10 up its last digit is
+-- behind those of a tenth of it, which the call of itself puts. The measure is the number. Assumes nothing.
 use native.Mathlib.Omega.{arith}
 use Rattle.text.proofs.Decimal.{put-one, put-ten}
 use borrow.Author.Needs.{needs}

@@ -1,5 +1,6 @@
--- `put_pointed` meets its contract: with no digit behind the point it is the number and the point, and otherwise its last
--- digit is behind what is put of a tenth of it with a digit less. The measure is the number of digits. Assumes nothing.
+-- `put_pointed` meets its contract: with no digit behind the point it is the number and
+-- the point, and otherwise its last digit is behind what is put of a tenth of it with a
+-- digit less. The measure is the number of digits. Assumes nothing.
 use native.Mathlib.Omega.{arith}
 use Rattle.text.proofs.Point.{put-point, put-behind}
 use borrow.Author.Needs.{needs}

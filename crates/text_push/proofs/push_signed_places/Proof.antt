@@ -24,7 +24,8 @@ returns c =
     let a = t .before .before in
     let s = a .before .before .before in
     rw (toZ-ofZ w64 _ (s .fits .z)) at
-    (push-fits _ _ _ _ _ _ (a .put-signed-places .ensures) _ _ (search needs) (t .if1 .taken) (b .put-signed-places2 .ensures))
+    (push-fits _ _ _ _ _ _ (a .put-signed-places .ensures) _ _ (search needs) (t .if1 .taken)
+    (b .put-signed-places2 .ensures))
 
 returns-2 : tie.Need-returns-2
 returns-2 c =

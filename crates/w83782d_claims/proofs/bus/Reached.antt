@@ -1,5 +1,5 @@
--- Which register an access reaches, and its answer: by arithmetic on the index, and for answer 1 by one computed test over every bank and index.
--- Assumes nothing.
+-- Which register an access reaches, and its answer: by arithmetic on the index, and for
+-- answer 1 by one computed test over every bank and index. Assumes nothing.
 use mathlib.Core.Path.{_≡_, _∙_, ap, ap₂, sym, refl}
 use mathlib.Core.Bool.{Bool, true, false, not, _&&_, _||_, Bool·beq, false≢true}
 use mathlib.Core.List.{List}
@@ -25,19 +25,22 @@ use Rattle.w83782d_registers.specs.Registers.{cellOf, bankOf, reachOf}
 use Rattle.w83782d_bus.specs.Bus.{State, writtenRegisters, writeOf, Written, readOf, Read}
 use Rattle.w83782d_map.proofs.Cells.{present, present-rows, present-out}
 use Rattle.w83782d_registers.proofs.Cases.{cell-alias, cell-any}
-use Rattle.w83782d_claims.specs.BusClaims.{answers1, AccessAnswers, RefusedAccess, Alias, Unbanked, BankSelected, AbsentBank, isAbsent}
+use Rattle.w83782d_claims.specs.BusClaims.{answers1, AccessAnswers, RefusedAccess, Alias}
+use Rattle.w83782d_claims.specs.BusClaims.{Unbanked, BankSelected, AbsentBank, isAbsent}
 
 -- ---- answers
 pub write-answer : (s : State) (i v : ℕ) → writeOf s i v .answer ≡ writeAnswer (reachOf (s .registers) i)
 unfolding writeOf
 write-answer s i v =
-    choose-ind (λ (w : Written). w .answer ≡ writeAnswer (reachOf (s .registers) i)) (eqb (writeAnswer (reachOf (s .registers) i)) 0) _ _
+    choose-ind (λ (w : Written). w .answer ≡ writeAnswer (reachOf (s .registers) i))
+    (eqb (writeAnswer (reachOf (s .registers) i)) 0) _ _
     (λ e. sym (eqb-true (writeAnswer (reachOf (s .registers) i)) 0 e)) (λ _. refl)
 
 pub read-answer : (s : State) (i : ℕ) → readOf s i .answer ≡ choose (presentAt (reachOf (s .registers) i)) 0 1
 unfolding readOf
 read-answer s i =
-    choose-ind (λ (r : Read). r .answer ≡ choose (presentAt (reachOf (s .registers) i)) 0 1) (presentAt (reachOf (s .registers) i)) _ _
+    choose-ind (λ (r : Read). r .answer ≡ choose (presentAt (reachOf (s .registers) i)) 0 1)
+    (presentAt (reachOf (s .registers) i)) _ _
     (λ e. simp e) (λ e. simp e)
 
 -- the cell that a bank and an index reach is no register exactly where answer 1 is listed
@@ -69,18 +72,21 @@ write-1 : (c : ℕ) → eqb (writeAnswer c) 1 ≡ not (presentAt c)
 unfolding writeAnswer
 write-1 c =
     choose-ind (λ (a : ℕ). eqb a 1 ≡ not (presentAt c)) (presentAt c) _ _
-    (λ e. choose-ind (λ (a : ℕ). eqb a 1 ≡ not (presentAt c)) (eqb (writableAt c) 0) _ _ (λ _. rw e) (λ _. rw e)) (λ e. rw e)
+    (λ e. choose-ind (λ (a : ℕ). eqb a 1 ≡ not (presentAt c)) (eqb (writableAt c) 0) _ _ (λ _. rw e) (λ _. rw e))
+    (λ e. rw e)
 
 write-2 : (c : ℕ) → eqb (writeAnswer c) 2 ≡ (presentAt c && eqb (writableAt c) 0)
 unfolding writeAnswer
 write-2 c =
     choose-ind (λ (a : ℕ). eqb a 2 ≡ (presentAt c && eqb (writableAt c) 0)) (presentAt c) _ _
-    (λ e. choose-ind (λ (a : ℕ). eqb a 2 ≡ (presentAt c && eqb (writableAt c) 0)) (eqb (writableAt c) 0) _ _ (λ f. rw (e, f)) (λ f. rw (e, f))) (λ e. rw e)
+    (λ e. choose-ind (λ (a : ℕ). eqb a 2 ≡ (presentAt c && eqb (writableAt c) 0)) (eqb (writableAt c) 0) _ _
+    (λ f. rw (e, f)) (λ f. rw (e, f))) (λ e. rw e)
 
 write-3 : (c : ℕ) → writeAnswer c < 3
 unfolding writeAnswer
 write-3 c =
-    choose-ind (λ (a : ℕ). a < 3) (presentAt c) _ _ (λ _. choose-ind (λ (a : ℕ). a < 3) (eqb (writableAt c) 0) _ _ (λ _. lit< tt) (λ _. lit< tt)) (λ _. lit< tt)
+    choose-ind (λ (a : ℕ). a < 3) (presentAt c) _ _
+    (λ _. choose-ind (λ (a : ℕ). a < 3) (eqb (writableAt c) 0) _ _ (λ _. lit< tt) (λ _. lit< tt)) (λ _. lit< tt)
 
 read-1 : (p : Bool) → eqb (choose p 0 1) 1 ≡ not p
 read-1 true = refl
@@ -114,9 +120,15 @@ unfolding writeOf readOf
 refused s i v =
     let c = reachOf (s .registers) i in
     record {
-      write = choose-ind (λ (w : Written). w .answer ≢ 0 → w .state ≡ s) (eqb (writeAnswer c) 0) _ _ (λ _ n. absurd (n refl)) (λ _ n. refl);
-      read = choose-ind (λ (r : Read). r .answer ≢ 0 → r .state ≡ s) (presentAt c) _ _ (λ _ n. absurd (n refl)) (λ _ n. refl);
-      byte = choose-ind (λ (r : Read). r .answer ≢ 0 → r .byte ≡ 0) (presentAt c) _ _ (λ _ n. absurd (n refl)) (λ _ n. refl);
+      write =
+          choose-ind (λ (w : Written). w .answer ≢ 0 → w .state ≡ s) (eqb (writeAnswer c) 0) _ _
+          (λ _ n. absurd (n refl)) (λ _ n. refl);
+      read =
+          choose-ind (λ (r : Read). r .answer ≢ 0 → r .state ≡ s) (presentAt c) _ _ (λ _ n. absurd (n refl))
+          (λ _ n. refl);
+      byte =
+          choose-ind (λ (r : Read). r .answer ≢ 0 → r .byte ≡ 0) (presentAt c) _ _ (λ _ n. absurd (n refl))
+          (λ _ n. refl);
     }
 
 -- ---- the cell of an index
@@ -151,13 +163,16 @@ merge-low o v =
 
 written-4E : (rs : List ℕ) (v : ℕ) → length rs ≡ cells → bankOf (writtenRegisters rs bankSelect v) ≡ bitAnd v 7
 unfolding writtenRegisters changes
-written-4E rs v h = rw (register-4E .stored, getD-set-same rs bankSelect (mergeOf (getD rs bankSelect 0) 0b1000_0111 v) 0 (omega arith)) (merge-low (getD rs bankSelect 0) v)
+written-4E rs v h =
+    rw (register-4E .stored, getD-set-same rs bankSelect (mergeOf (getD rs bankSelect 0) 0b1000_0111 v) 0 (omega arith))
+    (merge-low (getD rs bankSelect 0) v)
 
 pub selected : (s : State) (v : ℕ) → length (s .registers) ≡ cells → BankSelected s v
 unfolding writeOf
 selected s v w =
     record {
-      accepted = write-answer s 0x4E v ∙ ap writeAnswer (register-4E .cell (bankOf (s .registers))) ∙ register-4E .answer;
+      accepted =
+          write-answer s 0x4E v ∙ ap writeAnswer (register-4E .cell (bankOf (s .registers))) ∙ register-4E .answer;
       selects = rw (register-4E .cell, register-4E .answer) (written-4E (s .registers) v w);
     }
 
@@ -176,7 +191,9 @@ else false false t e = refl
 
 absent-from : (b k : ℕ) → b < 8 → k < 16 → isAbsent b ≡ true → cellOf b (0x50 + k) ≡ cells
 unfolding absentCell cellOf
-absent-from b k hb hk e = eqb→eq (cellOf b (0x50 + k)) cells (then (isAbsent b) (eqb (cellOf b (0x50 + k)) cells) (every-at2 absentCell 8 16 tt b k hb hk) e)
+absent-from b k hb hk e =
+    eqb→eq (cellOf b (0x50 + k)) cells
+    (then (isAbsent b) (eqb (cellOf b (0x50 + k)) cells) (every-at2 absentCell 8 16 tt b k hb hk) e)
 
 absent-cell : (b i : ℕ) → b < 8 → isAbsent b ≡ true → 0x50 ≤ i → i ≤ 0x5F → cellOf b i ≡ cells
 absent-cell b i hb e h k =
@@ -214,5 +231,7 @@ absent s i v =
       absent = λ e h k.
           let c : reachOf (s .registers) i ≡ cells = absent-cell b i (bank-lt (s .registers)) e h k in
           (write-answer s i v ∙ ap writeAnswer c ∙ answer-none, read-answer s i ∙ rw (c, present-none));
-      others = λ e. read-answer s (choose (eqb b 4) 0x59 0x56) ∙ ap (λ (p : Bool). choose p 0 1) (other-present b (bank-lt (s .registers)) e);
+      others =
+          λ e. read-answer s (choose (eqb b 4) 0x59 0x56)
+          ∙ ap (λ (p : Bool). choose p 0 1) (other-present b (bank-lt (s .registers)) e);
     }

@@ -56,9 +56,15 @@ module _ (s : State) (x : Sample) where
   pub refused : RefusedSample s x
   refused =
       record {
-        three = ap (λ (a : ℕ). eqb a 3) answered ∙ is-3 (outside (sampledHalves x 2)) (outside (sampledHalves x 3)) (isStandby s);
-        four = ap (λ (a : ℕ). eqb a 4) answered ∙ is-4 (outside (sampledHalves x 2)) (outside (sampledHalves x 3)) (isStandby s);
-        accepted = ap (λ (a : ℕ). eqb a 0) answered ∙ is-0 (outside (sampledHalves x 2)) (outside (sampledHalves x 3)) (isStandby s);
+        three =
+            ap (λ (a : ℕ). eqb a 3) answered
+            ∙ is-3 (outside (sampledHalves x 2)) (outside (sampledHalves x 3)) (isStandby s);
+        four =
+            ap (λ (a : ℕ). eqb a 4) answered
+            ∙ is-4 (outside (sampledHalves x 2)) (outside (sampledHalves x 3)) (isStandby s);
+        accepted =
+            ap (λ (a : ℕ). eqb a 0) answered
+            ∙ is-0 (outside (sampledHalves x 2)) (outside (sampledHalves x 3)) (isStandby s);
         unchanged = refused-state s x;
       }
 
@@ -71,7 +77,10 @@ none-far false false c e = (refl, refl)
 module _ (s : State) (x : Sample) (a : sampleOf s x .answer ≡ 0) where
   near : (outside (sampledHalves x 2) ≡ false) × (outside (sampledHalves x 3) ≡ false)
   unfolding sampleAnswer
-  near = none-far (outside (sampledHalves x 2)) (outside (sampledHalves x 3)) (isStandby s) (sym (sample-answer s x) ∙ a)
+  near =
+      none-far (outside (sampledHalves x 2)) (outside (sampledHalves x 3)) (isStandby s) (sym (sample-answer s x) ∙ a)
 
   pub in-range : (n : ℕ) → 2 ≤ n → n ≤ 3 → holds half9 (sampledHalves x n) ≡ true
-  in-range = both (λ n. holds half9 (sampledHalves x n) ≡ true) (held (sampledHalves x 2) (near .0)) (held (sampledHalves x 3) (near .1))
+  in-range =
+      both (λ n. holds half9 (sampledHalves x n) ≡ true) (held (sampledHalves x 2) (near .0))
+      (held (sampledHalves x 3) (near .1))

@@ -1,5 +1,5 @@
--- The conditions of the readings stored are those of the sample's own values: each reading is what was stored, each limit what it was.
--- Assumes nothing.
+-- The conditions of the readings stored are those of the sample's own values: each
+-- reading is what was stored, each limit what it was. Assumes nothing.
 use mathlib.Core.Path.{_≡_, refl, ap, ap₂, _∙_}
 use mathlib.Core.Bool.{Bool, true, false}
 use mathlib.Core.List.{List, [], _∷_, map}
@@ -27,7 +27,9 @@ use Rattle.sensor.specs.declared.Remote.{Remote}
 use Rattle.w83782d_layout.specs.declared.samples.Sample.{Sample}
 use Rattle.w83782d_latches.specs.declared.Latches.{Latches}
 use Rattle.w83782d_map.specs.Map.{cells}
-use Rattle.w83782d_map.specs.Cells.{bankCell, fanCount, fanLimit, highLimit, interruptStatus1, interruptStatus2, lowLimit, ovtProperty, realTimeStatus1, realTimeStatus2, sensor1Hysteresis, sensor1Over, sensor1Value, voltage}
+use Rattle.w83782d_map.specs.Cells.{bankCell, fanCount, fanLimit, highLimit, interruptStatus1}
+use Rattle.w83782d_map.specs.Cells.{interruptStatus2, lowLimit, ovtProperty, realTimeStatus1, realTimeStatus2}
+use Rattle.w83782d_map.specs.Cells.{sensor1Hysteresis, sensor1Over, sensor1Value, voltage}
 use Rattle.w83782d_registers.specs.Registers.{isInterrupt}
 use Rattle.w83782d_registers.proofs.Cases.{both}
 use Rattle.w83782d_latches.specs.Effects.{latches, remoteOf}
@@ -35,11 +37,13 @@ use Rattle.w83782d_bus.specs.Bus.{State}
 use Rattle.w83782d_store.specs.Stored.{sampledCode, sampledHalves, storedCount, readings, storedReadings}
 use Rattle.w83782d_conditions.specs.Conditions.{isOutside, isAbove, isBelow, isSlow, statusMode, outputMode}
 use Rattle.w83782d_conditions.proofs.Rules.{not-one}
-use Rattle.w83782d_sample.specs.Sample.{Source, firstByte, secondByte, statusAt, outputAt, remoteAfter, condition, latchedBy, statusStores, latchedByte, steppedLatches, sampleOf}
+use Rattle.w83782d_sample.specs.Sample.{Source, firstByte, secondByte, statusAt, outputAt, remoteAfter}
+use Rattle.w83782d_sample.specs.Sample.{condition, latchedBy, statusStores, latchedByte, steppedLatches, sampleOf}
 use Rattle.w83782d_sample.specs.Sample.Source.{rail, sensor, fan, chassis}
 use Rattle.w83782d_claims.specs.BusClaims.{cellIn}
 use Rattle.w83782d_claims.specs.Sampled.{halvesAt, isBeside, isHotter, isColder, isSlower, holdsFor, flagAt}
-use Rattle.w83782d_claims.specs.SampleClaims.{Stores, after, RealTime, FanRings, statusFor, outputFor, latchesFor, StatusOr, LatchesAfter}
+use Rattle.w83782d_claims.specs.SampleClaims.{Stores, after, RealTime, FanRings, statusFor}
+use Rattle.w83782d_claims.specs.SampleClaims.{outputFor, latchesFor, StatusOr, LatchesAfter}
 use Rattle.w83782d_claims.proofs.sample.Stores.{stored-at, stored-other, accepted-state, left-at}
 use Rattle.w83782d_claims.proofs.sample.Answers.{in-range}
 
@@ -72,11 +76,13 @@ module _ (s : State) (x : Sample) (w : length (s .registers) ≡ cells) where
   kept c n = stored-other (s .registers) x c n
 
   -- ---- a rail, a fan
-  rail-is : (i : ℕ) → voltage i < cells → given (voltage i) ≡ sampledCode x i → stays (highLimit i) → stays (lowLimit i) → isOutside t i ≡ isBeside (s .registers) x i
+  rail-is : (i : ℕ) → voltage i < cells → given (voltage i) ≡ sampledCode x i → stays (highLimit i) → stays (lowLimit i)
+      → isOutside t i ≡ isBeside (s .registers) x i
   unfolding isOutside isBeside
   rail-is i h g m n = simp (at (voltage i) h ∙ g, kept (highLimit i) m, kept (lowLimit i) n)
 
-  fan-is : (f : ℕ) → fanCount f < cells → given (fanCount f) ≡ storedCount (s .registers) x f → stays (fanLimit f) → isSlow t f ≡ isSlower (s .registers) x f
+  fan-is : (f : ℕ) → fanCount f < cells → given (fanCount f) ≡ storedCount (s .registers) x f → stays (fanLimit f)
+      → isSlow t f ≡ isSlower (s .registers) x f
   unfolding isSlow isSlower
   fan-is f h g n = simp (at (fanCount f) h ∙ g, kept (fanLimit f) n)
 
@@ -91,26 +97,32 @@ module _ (s : State) (x : Sample) (w : length (s .registers) ≡ cells) where
     below-1 : isBelow t 1 ≡ isColder (s .registers) x 1
     unfolding isBelow isColder
     below-1 =
-        ap₂ (λ (a b : ℕ). ltb (levelOf half8 a) (levelOf half8 b)) (at sensor1Value (lit< tt)) (kept sensor1Hysteresis refl)
+        ap₂ (λ (a b : ℕ). ltb (levelOf half8 a) (levelOf half8 b)) (at sensor1Value (lit< tt))
+        (kept sensor1Hysteresis refl)
         ∙ level-below half8 (x .sensor1) (cellIn s sensor1Hysteresis) fits (b sensor1Hysteresis)
 
   -- ---- sensors 2 and 3, over the number
-  module _ (b : (c : ℕ) → cellIn s c < 256) (n : ℕ) (h : 2 ≤ n) (k : n ≤ 3) (e : holds half9 (sampledHalves x n) ≡ true) where
+  module _ (b : (c : ℕ) → cellIn s c < 256) (n : ℕ) (h : 2 ≤ n) (k : n ≤ 3)
+      (e : holds half9 (sampledHalves x n) ≡ true) where
     value-is : nineBits (getD t (bankCell n) 0) (getD t (bankCell n + 1) 0) ≡ codeOf half9 (sampledHalves x n)
     value-is =
-        both (λ n. nineBits (getD t (bankCell n) 0) (getD t (bankCell n + 1) 0) ≡ nineBits (halfHigh (halfCodeOf (sampledHalves x n))) (halfLow (halfCodeOf (sampledHalves x n))))
-        (ap₂ nineBits (at (bankCell 2) (lit< tt)) (at (bankCell 2 + 1) (lit< tt))) (ap₂ nineBits (at (bankCell 3) (lit< tt)) (at (bankCell 3 + 1) (lit< tt))) n h k
+        both (λ n. nineBits (getD t (bankCell n) 0) (getD t (bankCell n + 1) 0)
+        ≡ nineBits (halfHigh (halfCodeOf (sampledHalves x n))) (halfLow (halfCodeOf (sampledHalves x n))))
+        (ap₂ nineBits (at (bankCell 2) (lit< tt)) (at (bankCell 2 + 1) (lit< tt)))
+        (ap₂ nineBits (at (bankCell 3) (lit< tt)) (at (bankCell 3 + 1) (lit< tt))) n h k
         ∙ nine-code (sampledHalves x n) e
 
     -- a cell of both banks that stays
-    kept-in : (f : ℕ → ℕ) → stays (f (bankCell 2)) → stays (f (bankCell 3)) → getD t (f (bankCell n)) 0 ≡ cellIn s (f (bankCell n))
+    kept-in : (f : ℕ → ℕ) → stays (f (bankCell 2)) → stays (f (bankCell 3))
+        → getD t (f (bankCell n)) 0 ≡ cellIn s (f (bankCell n))
     kept-in f p q = kept (f (bankCell n)) (both (λ n. stays (f (bankCell n))) p q n h k)
 
     above-n : isAbove t n ≡ isHotter (s .registers) x n
     unfolding isAbove isHotter
     above-n =
         simp (not-one n h)
-        (ap₂ (λ (a b : ℕ). ltb (levelOf half9 a) (levelOf half9 b)) (ap₂ nineBits (kept-in (λ c. c + 5) refl refl) (kept-in (λ c. c + 5 + 1) refl refl)) value-is
+        (ap₂ (λ (a b : ℕ). ltb (levelOf half9 a) (levelOf half9 b))
+        (ap₂ nineBits (kept-in (λ c. c + 5) refl refl) (kept-in (λ c. c + 5 + 1) refl refl)) value-is
         ∙ level-above half9 (sampledHalves x n) (nineBits (cellIn s (bankCell n + 5)) (cellIn s (bankCell n + 5 + 1))) e
         (nine-lt _ _ (b (bankCell n + 5)) (b (bankCell n + 5 + 1))))
 
@@ -118,7 +130,8 @@ module _ (s : State) (x : Sample) (w : length (s .registers) ≡ cells) where
     unfolding isBelow isColder
     below-n =
         simp (not-one n h)
-        (ap₂ (λ (a b : ℕ). ltb (levelOf half9 a) (levelOf half9 b)) value-is (ap₂ nineBits (kept-in (λ c. c + 3) refl refl) (kept-in (λ c. c + 3 + 1) refl refl))
+        (ap₂ (λ (a b : ℕ). ltb (levelOf half9 a) (levelOf half9 b)) value-is
+        (ap₂ nineBits (kept-in (λ c. c + 3) refl refl) (kept-in (λ c. c + 3 + 1) refl refl))
         ∙ level-below half9 (sampledHalves x n) (nineBits (cellIn s (bankCell n + 3)) (cellIn s (bankCell n + 3 + 1))) e
         (nine-lt _ _ (b (bankCell n + 3)) (b (bankCell n + 3 + 1))))
 
@@ -136,20 +149,26 @@ module _ (s : State) (x : Sample) (w : length (s .registers) ≡ cells) (a : sam
   real-bit : (j : ℕ) → (bit (cellIn (after s x) realTimeStatus1) j ≡ flagAt (condition (t s x w)) firstByte j)
       × (bit (cellIn (after s x) realTimeStatus2) j ≡ flagAt (condition (t s x w)) secondByte j)
   real-bit j = (
-    ap (λ (b : ℕ). bit b j) (left-at s x realTimeStatus1 a (rw (w) (lit< tt))) ∙ word-bit (map (condition (t s x w)) firstByte) j,
-    ap (λ (b : ℕ). bit b j) (left-at s x realTimeStatus2 a (rw (w) (lit< tt))) ∙ word-bit (map (condition (t s x w)) secondByte) j,
+    ap (λ (b : ℕ). bit b j) (left-at s x realTimeStatus1 a (rw (w) (lit< tt)))
+        ∙ word-bit (map (condition (t s x w)) firstByte) j,
+    ap (λ (b : ℕ). bit b j) (left-at s x realTimeStatus2 a (rw (w) (lit< tt)))
+        ∙ word-bit (map (condition (t s x w)) secondByte) j,
   )
 
   pub latched-bit : (j : ℕ)
-      → (bit (cellIn (after s x) interruptStatus1) j ≡ max (bit (cellIn s interruptStatus1) j) (flagAt (latchedBy (t s x w) (s .latches)) firstByte j))
-      × (bit (cellIn (after s x) interruptStatus2) j ≡ max (bit (cellIn s interruptStatus2) j) (flagAt (latchedBy (t s x w) (s .latches)) secondByte j))
+      → (bit (cellIn (after s x) interruptStatus1) j
+      ≡ max (bit (cellIn s interruptStatus1) j) (flagAt (latchedBy (t s x w) (s .latches)) firstByte j))
+      × (bit (cellIn (after s x) interruptStatus2) j
+      ≡ max (bit (cellIn s interruptStatus2) j) (flagAt (latchedBy (t s x w) (s .latches)) secondByte j))
   latched-bit j = (
     ap (λ (b : ℕ). bit b j)
-        (left-at s x interruptStatus1 a (rw (w) (lit< tt)) ∙ ap (λ (o : ℕ). bitOr o (latchedByte (t s x w) (s .latches) firstByte)) (at s x w interruptStatus1 (lit< tt)))
+        (left-at s x interruptStatus1 a (rw (w) (lit< tt))
+        ∙ ap (λ (o : ℕ). bitOr o (latchedByte (t s x w) (s .latches) firstByte)) (at s x w interruptStatus1 (lit< tt)))
         ∙ or-bit (cellIn s interruptStatus1) (latchedByte (t s x w) (s .latches) firstByte) j
         ∙ ap (max (bit (cellIn s interruptStatus1) j)) (word-bit (map (latchedBy (t s x w) (s .latches)) firstByte) j),
     ap (λ (b : ℕ). bit b j)
-        (left-at s x interruptStatus2 a (rw (w) (lit< tt)) ∙ ap (λ (o : ℕ). bitOr o (latchedByte (t s x w) (s .latches) secondByte)) (at s x w interruptStatus2 (lit< tt)))
+        (left-at s x interruptStatus2 a (rw (w) (lit< tt))
+        ∙ ap (λ (o : ℕ). bitOr o (latchedByte (t s x w) (s .latches) secondByte)) (at s x w interruptStatus2 (lit< tt)))
         ∙ or-bit (cellIn s interruptStatus2) (latchedByte (t s x w) (s .latches) secondByte) j
         ∙ ap (max (bit (cellIn s interruptStatus2) j)) (word-bit (map (latchedBy (t s x w) (s .latches)) secondByte) j),
   )
@@ -176,23 +195,27 @@ module _ (s : State) (x : Sample) (w : length (s .registers) ≡ cells) (a : sam
   counts (suc (suc (suc (suc f)))) h k = absurd (omega arith)
 
   nine-stored : (n : ℕ) → 2 ≤ n → n ≤ 3
-      → nineBits (cellIn (after s x) (bankCell n)) (cellIn (after s x) (bankCell n + 1)) ≡ nineBits (halfHigh (halfCodeOf (sampledHalves x n))) (halfLow (halfCodeOf (sampledHalves x n)))
+      → nineBits (cellIn (after s x) (bankCell n)) (cellIn (after s x) (bankCell n + 1))
+      ≡ nineBits (halfHigh (halfCodeOf (sampledHalves x n))) (halfLow (halfCodeOf (sampledHalves x n)))
   nine-stored =
       both
-      (λ n. nineBits (cellIn (after s x) (bankCell n)) (cellIn (after s x) (bankCell n + 1)) ≡ nineBits (halfHigh (halfCodeOf (sampledHalves x n))) (halfLow (halfCodeOf (sampledHalves x n))))
+      (λ n. nineBits (cellIn (after s x) (bankCell n)) (cellIn (after s x) (bankCell n + 1))
+      ≡ nineBits (halfHigh (halfCodeOf (sampledHalves x n))) (halfLow (halfCodeOf (sampledHalves x n))))
       (ap₂ nineBits (reading (bankCell 2) (lit< tt)) (reading (bankCell 2 + 1) (lit< tt)))
       (ap₂ nineBits (reading (bankCell 3) (lit< tt)) (reading (bankCell 3 + 1) (lit< tt)))
 
   halves-are : (n : ℕ) → 2 ≤ n → n ≤ 3 → halvesAt (after s x .registers) (bankCell n) ≡ sampledHalves x n
   halves-are n h k =
       let e = in-range s x a n h k in
-      ap (signedOf half9) (nine-stored n h k ∙ nine-code (sampledHalves x n) e) ∙ twos-complement-holds .back half9 (sampledHalves x n) e
+      ap (signedOf half9) (nine-stored n h k ∙ nine-code (sampledHalves x n) e)
+      ∙ twos-complement-holds .back half9 (sampledHalves x n) e
 
   pub stores : Fits x → Stores s x
   stores fits =
       record {
         codes = codes;
-        sensor1 = ap (signedOf half8) (reading sensor1Value (lit< tt)) ∙ twos-complement-holds .back half8 (x .sensor1) fits;
+        sensor1 =
+            ap (signedOf half8) (reading sensor1Value (lit< tt)) ∙ twos-complement-holds .back half8 (x .sensor1) fits;
         remote = halves-are;
         counts = counts;
       }
@@ -207,7 +230,8 @@ module _ (s : State) (x : Sample) (w : length (s .registers) ≡ cells) (a : sam
   fan-rings (suc (suc (suc (suc f)))) h k = absurd (omega arith)
 
 -- ---- where the cells are bytes: the sensors' conditions and steps
-module _ (s : State) (x : Sample) (w : length (s .registers) ≡ cells) (b : (c : ℕ) → cellIn s c < 256) (a : sampleOf s x .answer ≡ 0) where
+module _ (s : State) (x : Sample) (w : length (s .registers) ≡ cells) (b : (c : ℕ) → cellIn s c < 256)
+    (a : sampleOf s x .answer ≡ 0) where
   above-remote : (n : ℕ) → 2 ≤ n → n ≤ 3 → isAbove (t s x w) n ≡ isHotter (s .registers) x n
   above-remote n h k = above-n s x w b n h k (in-range s x a n h k)
 
@@ -215,8 +239,10 @@ module _ (s : State) (x : Sample) (w : length (s .registers) ≡ cells) (b : (c 
   below-remote n h k = below-n s x w b n h k (in-range s x a n h k)
 
   -- ---- both bytes, over any flag of a source that the sources of a rail and a fan share
-  module _ (f g : Source → Bool) (rails : (i : ℕ) → isOutside (t s x w) i ≡ isBeside (s .registers) x i → f (rail i) ≡ g (rail i))
-      (fans : (n : ℕ) → isSlow (t s x w) n ≡ isSlower (s .registers) x n → f (fan n) ≡ g (fan n)) (one : f (sensor 1) ≡ g (sensor 1)) (two : f (sensor 2) ≡ g (sensor 2))
+  module _ (f g : Source → Bool)
+      (rails : (i : ℕ) → isOutside (t s x w) i ≡ isBeside (s .registers) x i → f (rail i) ≡ g (rail i))
+      (fans : (n : ℕ) → isSlow (t s x w) n ≡ isSlower (s .registers) x n → f (fan n) ≡ g (fan n))
+      (one : f (sensor 1) ≡ g (sensor 1)) (two : f (sensor 2) ≡ g (sensor 2))
       (three : f (sensor 3) ≡ g (sensor 3)) (no : f chassis ≡ g chassis) where
     first-same : map f firstByte ≡ map g firstByte
     first-same =
@@ -244,10 +270,14 @@ module _ (s : State) (x : Sample) (w : length (s .registers) ≡ cells) (b : (c 
 
   module _ (fits : Fits x) where
     real-first : map (condition (t s x w)) firstByte ≡ map (holdsFor (s .registers) x) firstByte
-    real-first = first-same (condition (t s x w)) (holdsFor (s .registers) x) (λ i e. e) (λ n e. e) (above-1 s x w b fits) (above-remote 2 (lit≤ tt) (lit≤ tt)) (above-remote 3 (lit≤ tt) (lit≤ tt)) refl
+    real-first =
+        first-same (condition (t s x w)) (holdsFor (s .registers) x) (λ i e. e) (λ n e. e) (above-1 s x w b fits)
+        (above-remote 2 (lit≤ tt) (lit≤ tt)) (above-remote 3 (lit≤ tt) (lit≤ tt)) refl
 
     real-second : map (condition (t s x w)) secondByte ≡ map (holdsFor (s .registers) x) secondByte
-    real-second = second-same (condition (t s x w)) (holdsFor (s .registers) x) (λ i e. e) (λ n e. e) (above-1 s x w b fits) (above-remote 2 (lit≤ tt) (lit≤ tt)) (above-remote 3 (lit≤ tt) (lit≤ tt)) refl
+    real-second =
+        second-same (condition (t s x w)) (holdsFor (s .registers) x) (λ i e. e) (λ n e. e) (above-1 s x w b fits)
+        (above-remote 2 (lit≤ tt) (lit≤ tt)) (above-remote 3 (lit≤ tt) (lit≤ tt)) refl
 
     pub real-time : RealTime s x
     real-time =
@@ -272,36 +302,50 @@ module _ (s : State) (x : Sample) (w : length (s .registers) ≡ cells) (b : (c 
   unfolding outputAt outputFor
   output-n n h k = rw (output-mode s x w n h k, above-remote n h k, below-remote n h k)
 
-  remote-n : (n : ℕ) → 2 ≤ n → n ≤ 3 → remoteAfter (t s x w) (s .latches) n ≡ remote (statusFor s x n .mark) (outputFor s x n)
+  remote-n : (n : ℕ) → 2 ≤ n → n ≤ 3
+      → remoteAfter (t s x w) (s .latches) n ≡ remote (statusFor s x n .mark) (outputFor s x n)
   remote-n n h k = ap₂ (λ (y : Status) (o : Output). remote (y .mark) o) (status-n n h k) (output-n n h k)
 
   module _ (fits : Fits x) where
     pub latched-first : map (latchedBy (t s x w) (s .latches)) firstByte ≡ map (latchesFor s x) firstByte
     latched-first =
-        first-same (latchedBy (t s x w) (s .latches)) (latchesFor s x) (λ i e. e) (λ n e. e) (ap (λ (y : Status). y .latched) (status-1 fits))
+        first-same (latchedBy (t s x w) (s .latches)) (latchesFor s x) (λ i e. e) (λ n e. e)
+        (ap (λ (y : Status). y .latched) (status-1 fits))
         (latched-n 2 (lit≤ tt) (lit≤ tt)) (latched-n 3 (lit≤ tt) (lit≤ tt)) refl
 
     pub latched-second : map (latchedBy (t s x w) (s .latches)) secondByte ≡ map (latchesFor s x) secondByte
     latched-second =
-        second-same (latchedBy (t s x w) (s .latches)) (latchesFor s x) (λ i e. e) (λ n e. e) (ap (λ (y : Status). y .latched) (status-1 fits))
+        second-same (latchedBy (t s x w) (s .latches)) (latchesFor s x) (λ i e. e) (λ n e. e)
+        (ap (λ (y : Status). y .latched) (status-1 fits))
         (latched-n 2 (lit≤ tt) (lit≤ tt)) (latched-n 3 (lit≤ tt) (lit≤ tt)) refl
 
     pub status-or : StatusOr s x
     status-or =
         record {
-          first = λ j. latched-bit s x w a j .0 ∙ ap (λ (bs : List Bool). max (bit (cellIn s interruptStatus1) j) (flagOf (getD bs j false))) latched-first;
-          second = λ j. latched-bit s x w a j .1 ∙ ap (λ (bs : List Bool). max (bit (cellIn s interruptStatus2) j) (flagOf (getD bs j false))) latched-second;
+          first =
+              λ j. latched-bit s x w a j .0
+              ∙ ap (λ (bs : List Bool). max (bit (cellIn s interruptStatus1) j)
+              (flagOf (getD bs j false))) latched-first;
+          second =
+              λ j. latched-bit s x w a j .1
+              ∙ ap (λ (bs : List Bool). max (bit (cellIn s interruptStatus2) j)
+              (flagOf (getD bs j false))) latched-second;
         }
 
     -- ---- the latches
     stepped :
         after s x .latches
-        ≡ latches (s .latches .chassis) (statusFor s x 1 .mark) (remote (statusFor s x 2 .mark) (outputFor s x 2) ∷ remote (statusFor s x 3 .mark) (outputFor s x 3) ∷ [])
+        ≡ latches (s .latches .chassis) (statusFor s x 1 .mark)
+        (remote (statusFor s x 2 .mark) (outputFor s x 2) ∷ remote (statusFor s x 3 .mark) (outputFor s x 3) ∷ [])
     unfolding steppedLatches
-    stepped = ap (λ (y : State). y .latches) (accepted-state s x a) ∙ rw (status-1 fits, remote-n 2 (lit≤ tt) (lit≤ tt), remote-n 3 (lit≤ tt) (lit≤ tt))
+    stepped =
+        ap (λ (y : State). y .latches) (accepted-state s x a)
+        ∙ rw (status-1 fits, remote-n 2 (lit≤ tt) (lit≤ tt), remote-n 3 (lit≤ tt) (lit≤ tt))
 
     marks : (n : ℕ) → 2 ≤ n → n ≤ 3 → remoteOf (after s x .latches) n ≡ remote (statusFor s x n .mark) (outputFor s x n)
-    marks = both (λ n. remoteOf (after s x .latches) n ≡ remote (statusFor s x n .mark) (outputFor s x n)) (ap (λ (l : Latches). remoteOf l 2) stepped) (ap (λ (l : Latches). remoteOf l 3) stepped)
+    marks =
+        both (λ n. remoteOf (after s x .latches) n ≡ remote (statusFor s x n .mark) (outputFor s x n))
+        (ap (λ (l : Latches). remoteOf l 2) stepped) (ap (λ (l : Latches). remoteOf l 3) stepped)
 
     pub latches-after : LatchesAfter s x
     latches-after =

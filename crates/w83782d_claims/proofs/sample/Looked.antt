@@ -1,5 +1,5 @@
--- What a sample looks at: two states that are the same there find the same conditions, latch the same and step alike. It looks at
--- no bit without a rule, and not at 41h and 42h, into which it latches. Assumes nothing.
+-- What a sample looks at: two states that are the same there find the same conditions, latch the same and step
+-- alike. It looks at no bit without a rule, and not at 41h and 42h, into which it latches. Assumes nothing.
 use mathlib.Core.Path.{_≡_, refl, ap, sym, subst, _∙_}
 use mathlib.Core.Bool.{Bool, true, false, not, _||_, false≢true}
 use mathlib.Core.List.{List, map}
@@ -20,13 +20,17 @@ use Rattle.status.proofs.AfterLaws.{all-on}
 use Rattle.w83782d_layout.specs.declared.samples.Sample.{Sample}
 use Rattle.w83782d_latches.specs.declared.Latches.{Latches}
 use Rattle.w83782d_map.specs.Map.{cells}
-use Rattle.w83782d_map.specs.Cells.{bankCell, configuration, fanCount, fanLimit, highLimit, interruptStatus1, interruptStatus2, lowLimit, ovtProperty, sensor1Hysteresis, sensor1Over, sensor1Value, voltage}
+use Rattle.w83782d_map.specs.Cells.{bankCell, configuration, fanCount, fanLimit, highLimit}
+use Rattle.w83782d_map.specs.Cells.{interruptStatus1, interruptStatus2, lowLimit, ovtProperty, sensor1Hysteresis}
+use Rattle.w83782d_map.specs.Cells.{sensor1Over, sensor1Value, voltage}
 use Rattle.w83782d_registers.specs.Registers.{isInterrupt}
 use Rattle.w83782d_registers.proofs.Cases.{both}
-use Rattle.w83782d_store.specs.Stored.{none, divisorPlaces, divisorOf, storedCount, readings, storedReadings, sampleAnswer}
+use Rattle.w83782d_store.specs.Stored.{none, divisorPlaces, divisorOf, storedCount}
+use Rattle.w83782d_store.specs.Stored.{readings, storedReadings, sampleAnswer}
 use Rattle.w83782d_conditions.specs.Conditions.{isOutside, isAbove, isBelow, isSlow, statusMode, outputMode}
 use Rattle.w83782d_conditions.proofs.Rules.{not-one}
-use Rattle.w83782d_sample.specs.Sample.{Source, condition, firstByte, secondByte, statusAt, outputAt, remoteAfter, realTimeByte, latchedBy, latchedByte, statusStores, steppedLatches}
+use Rattle.w83782d_sample.specs.Sample.{Source, condition, firstByte, secondByte, statusAt, outputAt}
+use Rattle.w83782d_sample.specs.Sample.{remoteAfter, realTimeByte, latchedBy, latchedByte, statusStores, steppedLatches}
 use Rattle.w83782d_sample.specs.Sample.Source.{rail, sensor, fan, chassis}
 use Rattle.w83782d_claims.specs.SampleClaims.{ruleless}
 
@@ -64,14 +68,17 @@ module _ (rs ts : List ℕ) (e : Seen rs ts) where
 
   pub seen-stored : (x : Sample) → Seen (storedReadings rs x) (storedReadings ts x)
   unfolding storedReadings
-  seen-stored x = subst (λ (ws : List Store). Seen (puts rs ws) (storedReadings ts x)) (sym (readings-same x)) (puts-same cells unlooked (readings ts x) rs ts e)
+  seen-stored x =
+      subst (λ (ws : List Store). Seen (puts rs ws) (storedReadings ts x)) (sym (readings-same x))
+      (puts-same cells unlooked (readings ts x) rs ts e)
 
   pub answer-same : (x : Sample) → sampleAnswer rs x ≡ sampleAnswer ts x
   unfolding sampleAnswer ruleless bit
   answer-same x = rw (e .bits configuration 0 (lit< tt) refl, e .bits configuration 3 (lit< tt) refl)
 
   -- ---- conditions, each over the number where there are several
-  outside-same : (i : ℕ) → plain (voltage i) ≡ true → plain (highLimit i) ≡ true → plain (lowLimit i) ≡ true → isOutside rs i ≡ isOutside ts i
+  outside-same : (i : ℕ) → plain (voltage i) ≡ true → plain (highLimit i) ≡ true → plain (lowLimit i) ≡ true
+      → isOutside rs i ≡ isOutside ts i
   unfolding isOutside
   outside-same i p q r = rw (e .cell (voltage i) p, e .cell (highLimit i) q, e .cell (lowLimit i) r)
 
@@ -89,7 +96,8 @@ module _ (rs ts : List ℕ) (e : Seen rs ts) where
 
   -- sensors 2 and 3: rules name every cell of a bank but 52h whole
   module _ (n : ℕ) (h : 2 ≤ n) (k : n ≤ 3) where
-    in-bank : (f : ℕ → ℕ) → plain (f (bankCell 2)) ≡ true → plain (f (bankCell 3)) ≡ true → getD rs (f (bankCell n)) 0 ≡ getD ts (f (bankCell n)) 0
+    in-bank : (f : ℕ → ℕ) → plain (f (bankCell 2)) ≡ true → plain (f (bankCell 3)) ≡ true
+        → getD rs (f (bankCell n)) 0 ≡ getD ts (f (bankCell n)) 0
     in-bank f p q = e .cell (f (bankCell n)) (both (λ n. plain (f (bankCell n)) ≡ true) p q n h k)
 
     level : (k : ℕ) → plain (bankCell 2 + k) ≡ true → plain (bankCell 3 + k) ≡ true
@@ -111,7 +119,8 @@ module _ (rs ts : List ℕ) (e : Seen rs ts) where
 
     pub interrupt-same : isInterrupt rs n ≡ isInterrupt ts n
     unfolding isInterrupt ruleless bit
-    interrupt-same = rw (e .bits (bankCell n + 2) 1 (lit< tt) (both (λ n. ruled (bankCell n + 2) 1 ≡ true) refl refl n h k))
+    interrupt-same =
+        rw (e .bits (bankCell n + 2) 1 (lit< tt) (both (λ n. ruled (bankCell n + 2) 1 ≡ true) refl refl n h k))
 
     output-mode : outputMode rs n ≡ outputMode ts n
     unfolding outputMode
@@ -121,16 +130,19 @@ module _ (rs ts : List ℕ) (e : Seen rs ts) where
   unfolding statusMode ruleless bit
   status-mode n = rw (e .cell sensor1Hysteresis refl, e .bits ovtProperty 6 (lit< tt) refl)
 
-  status-same : (l : Latches) (n : ℕ) → isAbove rs n ≡ isAbove ts n → isBelow rs n ≡ isBelow ts n → statusAt rs l n ≡ statusAt ts l n
+  status-same : (l : Latches) (n : ℕ) → isAbove rs n ≡ isAbove ts n → isBelow rs n ≡ isBelow ts n
+      → statusAt rs l n ≡ statusAt ts l n
   unfolding statusAt
   status-same l n p q = rw (status-mode n, p, q)
 
-  latched-same : (l : Latches) (n : ℕ) → isAbove rs n ≡ isAbove ts n → isBelow rs n ≡ isBelow ts n → latchedBy rs l (sensor n) ≡ latchedBy ts l (sensor n)
+  latched-same : (l : Latches) (n : ℕ) → isAbove rs n ≡ isAbove ts n → isBelow rs n ≡ isBelow ts n
+      → latchedBy rs l (sensor n) ≡ latchedBy ts l (sensor n)
   latched-same l n p q = ap (λ (y : Status). y .latched) (status-same l n p q)
 
   remote-same : (l : Latches) (n : ℕ) → 2 ≤ n → n ≤ 3 → remoteAfter rs l n ≡ remoteAfter ts l n
   unfolding outputAt
-  remote-same l n h k = rw (status-same l n (above-n n h k) (below-n n h k), output-mode n h k, above-n n h k, below-n n h k)
+  remote-same l n h k =
+      rw (status-same l n (above-n n h k) (below-n n h k), output-mode n h k, above-n n h k, below-n n h k)
 
   -- ---- both bytes, over any flag of a source that goes by the same conditions
   module _ (f g : Source → Bool) (rails : (i : ℕ) → isOutside rs i ≡ isOutside ts i → f (rail i) ≡ g (rail i))
@@ -163,10 +175,14 @@ module _ (rs ts : List ℕ) (e : Seen rs ts) where
         )
 
   real-1 : realTimeByte rs firstByte ≡ realTimeByte ts firstByte
-  real-1 = first-same (condition rs) (condition ts) (λ i e. e) (λ n e. e) above-1 (above-n 2 (lit≤ tt) (lit≤ tt)) (above-n 3 (lit≤ tt) (lit≤ tt)) refl
+  real-1 =
+      first-same (condition rs) (condition ts) (λ i e. e) (λ n e. e) above-1 (above-n 2 (lit≤ tt) (lit≤ tt))
+      (above-n 3 (lit≤ tt) (lit≤ tt)) refl
 
   real-2 : realTimeByte rs secondByte ≡ realTimeByte ts secondByte
-  real-2 = second-same (condition rs) (condition ts) (λ i e. e) (λ n e. e) above-1 (above-n 2 (lit≤ tt) (lit≤ tt)) (above-n 3 (lit≤ tt) (lit≤ tt)) refl
+  real-2 =
+      second-same (condition rs) (condition ts) (λ i e. e) (λ n e. e) above-1 (above-n 2 (lit≤ tt) (lit≤ tt))
+      (above-n 3 (lit≤ tt) (lit≤ tt)) refl
 
   module _ (l : Latches) where
     one-latched : latchedBy rs l (sensor 1) ≡ latchedBy ts l (sensor 1)
@@ -177,20 +193,24 @@ module _ (rs ts : List ℕ) (e : Seen rs ts) where
 
     pub latched-1 : latchedByte rs l firstByte ≡ latchedByte ts l firstByte
     latched-1 =
-        first-same (latchedBy rs l) (latchedBy ts l) (λ i e. e) (λ n e. e) one-latched (remote-latched 2 (lit≤ tt) (lit≤ tt)) (remote-latched 3 (lit≤ tt) (lit≤ tt)) refl
+        first-same (latchedBy rs l) (latchedBy ts l) (λ i e. e) (λ n e. e) one-latched
+        (remote-latched 2 (lit≤ tt) (lit≤ tt)) (remote-latched 3 (lit≤ tt) (lit≤ tt)) refl
 
     pub latched-2 : latchedByte rs l secondByte ≡ latchedByte ts l secondByte
     latched-2 =
-        second-same (latchedBy rs l) (latchedBy ts l) (λ i e. e) (λ n e. e) one-latched (remote-latched 2 (lit≤ tt) (lit≤ tt)) (remote-latched 3 (lit≤ tt) (lit≤ tt)) refl
+        second-same (latchedBy rs l) (latchedBy ts l) (λ i e. e) (λ n e. e) one-latched
+        (remote-latched 2 (lit≤ tt) (lit≤ tt)) (remote-latched 3 (lit≤ tt) (lit≤ tt)) refl
 
   -- ---- the stores of status and real-time bits, where 41h and 42h are the same too
-  pub status-stores : (l : Latches) → getD rs interruptStatus1 0 ≡ getD ts interruptStatus1 0 → getD rs interruptStatus2 0 ≡ getD ts interruptStatus2 0
+  pub status-stores : (l : Latches) → getD rs interruptStatus1 0 ≡ getD ts interruptStatus1 0
+      → getD rs interruptStatus2 0 ≡ getD ts interruptStatus2 0
       → statusStores rs l ≡ statusStores ts l
   status-stores l p q = rw (p, q, latched-1 l, latched-2 l, real-1, real-2)
 
   pub stepped-same : (l : Latches) → steppedLatches rs l ≡ steppedLatches ts l
   unfolding steppedLatches
-  stepped-same l = rw (status-same l 1 above-1 below-1, remote-same l 2 (lit≤ tt) (lit≤ tt), remote-same l 3 (lit≤ tt) (lit≤ tt))
+  stepped-same l =
+      rw (status-same l 1 above-1 below-1, remote-same l 2 (lit≤ tt) (lit≤ tt), remote-same l 3 (lit≤ tt) (lit≤ tt))
 
 -- ---- two registers that are the same but for bits without a rule
 pub seen : (rs ts : List ℕ) → SameBut cells ruleless rs ts → Seen rs ts
@@ -198,7 +218,10 @@ seen rs ts e =
     record {
       count = e .count;
       count′ = e .count′;
-      cell = λ c p. e .cell c (rw (and-left (ltb c cells) (eqb (unlooked c) 0) p) (whole (isStatus c) (ruleless c) (and-right (ltb c cells) (eqb (unlooked c) 0) p)));
+      cell =
+          λ c p. e .cell c
+          (rw (and-left (ltb c cells) (eqb (unlooked c) 0) p)
+          (whole (isStatus c) (ruleless c) (and-right (ltb c cells) (eqb (unlooked c) 0) p)));
       bits = λ c j hj p.
           e .bits c j hj
           (rw (and-left (ltb c cells) (not (isOn (unlooked c) j)) p)

@@ -8,7 +8,8 @@ use Rattle.w83782d_claims.specs.BusClaims.{Whole}
 use Rattle.w83782d_claims.specs.SampleClaims.{SampleClaims}
 use Rattle.w83782d_claims.proofs.sample.Stores.{frame}
 use Rattle.w83782d_claims.proofs.sample.Answers.{refused}
-use Rattle.w83782d_claims.proofs.sample.Conditions.{fits-byte, stores, fan-rings, real-time, status-or, latches-after}
+use Rattle.w83782d_claims.proofs.sample.Conditions.{fits-byte, stores, fan-rings}
+use Rattle.w83782d_claims.proofs.sample.Conditions.{real-time, status-or, latches-after}
 use Rattle.w83782d_claims.proofs.sample.Smi.{smi-exactly, standby}
 use Rattle.w83782d_claims.proofs.sample.Stored.{stored-only}
 use Rattle.w83782d_claims.proofs.sample.Reading.{read-alike}

@@ -1,5 +1,5 @@
--- Reads of two states that differ in bits without a rule: the bank is the same, so the same cell is reached; a byte is shown
--- from its own cell, the latch and 4Eh; and OVT is released by bit 1 of 52h, which a rule names. Assumes nothing.
+-- Reads of two states that differ in bits without a rule: the bank is the same, so the same cell is reached; a byte is
+-- shown from its own cell, the latch and 4Eh; and OVT is released by bit 1 of 52h, which a rule names. Assumes nothing.
 use mathlib.Core.Path.{_≡_, refl, ap, sym, _∙_}
 use mathlib.Core.Bool.{Bool, true, false, not, _&&_, _||_, true≢false}
 use mathlib.Core.List.{List, [], _∷_}
@@ -42,12 +42,17 @@ module _ (rs ts : List ℕ) (e : Same rs ts) where
 
   latches-same : (l : Latches) (c : ℕ) → readLatches rs l c ≡ readLatches ts l c
   unfolding readLatches
-  latches-same l c = rw (interrupt-same rs ts (seen rs ts e) 2 (lit≤ tt) (lit≤ tt), interrupt-same rs ts (seen rs ts e) 3 (lit≤ tt) (lit≤ tt))
+  latches-same l c =
+      rw (
+        interrupt-same rs ts (seen rs ts e) 2 (lit≤ tt) (lit≤ tt),
+        interrupt-same rs ts (seen rs ts e) 3 (lit≤ tt) (lit≤ tt),
+      )
 
 -- ---- what it shows: but for 40h, a register with a rule for what is shown has a rule for every bit
 other-rules : (c : ℕ) → c < cells → (hasRule c && (not (eqb c configuration) && not (eqb (ruleless c) 0))) ≡ false
 unfolding ruleless
-other-rules = same-tests cells (λ c. hasRule c && (not (eqb c configuration) && not (eqb (ruleless c) 0))) (λ c. false) tt
+other-rules =
+    same-tests cells (λ c. hasRule c && (not (eqb c configuration) && not (eqb (ruleless c) 0))) (λ c. false) tt
 
 third : (a b d : Bool) → (a && (not b && not d)) ≡ false → a ≡ true → b ≡ false → d ≡ true
 third true false true e p q = refl
@@ -57,7 +62,8 @@ third false b d e p q = absurd (true≢false (sym p))
 
 ruled-whole : (c : ℕ) → c < cells → c ≢ configuration → hasRule c ≡ true → plain c ≡ true
 ruled-whole c h n r =
-    let e : eqb (ruleless c) 0 ≡ true = third (hasRule c) (eqb c configuration) (eqb (ruleless c) 0) (other-rules c h) r (ne-eqb c configuration n) in
+    let e : eqb (ruleless c) 0 ≡ true =
+    third (hasRule c) (eqb c configuration) (eqb (ruleless c) 0) (other-rules c h) r (ne-eqb c configuration n) in
     rw (lt-ltb c cells h, e)
 
 module _ (s t : State) (ws : Whole s) (wt : Whole t) (a : Alike s t) where
@@ -71,7 +77,8 @@ module _ (s t : State) (ws : Whole s) (wt : Whole t) (a : Alike s t) where
   cell-shown : (c : ℕ) → plain c ≡ true → shownIn s c ≡ shownIn t c
   unfolding ruleless
   cell-shown c p =
-      shown-same (t .registers) (s .registers) (s .latches .chassis) c (before .cell c p) (λ _. before .cell bankSelect refl)
+      shown-same (t .registers) (s .registers) (s .latches .chassis) c (before .cell c p)
+      (λ _. before .cell bankSelect refl)
       ∙ ap (λ (l : Latches). shownOf (t .registers) (l .chassis) c) (a .latches)
 
   bit-shown : (c j : ℕ) → c < cells → j < 8 → isOn (ruleless c) j ≡ false → bit (shownIn s c) j ≡ bit (shownIn t c) j
@@ -84,7 +91,8 @@ module _ (s t : State) (ws : Whole s) (wt : Whole t) (a : Alike s t) where
           ∙ ap (choose (eqb j 7) 0) (a .bits configuration j (lit< tt) hj (rw q at e))
           ∙ sym (shown t .configuration j hj))
       go (no n) false k =
-          ap (λ (x : ℕ). bit x j) (shown s .other c k) ∙ a .bits c j h hj e ∙ sym (ap (λ (x : ℕ). bit x j) (shown t .other c k))
+          ap (λ (x : ℕ). bit x j) (shown s .other c k) ∙ a .bits c j h hj e
+          ∙ sym (ap (λ (x : ℕ). bit x j) (shown t .other c k))
       go (no n) true k = ap (λ (x : ℕ). bit x j) (cell-shown c (ruled-whole c h n k))
 
   -- ---- the read
@@ -93,10 +101,12 @@ module _ (s t : State) (ws : Whole s) (wt : Whole t) (a : Alike s t) where
     c = reachOf (s .registers) i
 
     answer-same : readOf s i .answer ≡ readOf t i .answer
-    answer-same = read-answer s i ∙ ap (λ (k : ℕ). choose (presentAt k) 0 1) (sym (reach-same i)) ∙ sym (read-answer t i)
+    answer-same =
+        read-answer s i ∙ ap (λ (k : ℕ). choose (presentAt k) 0 1) (sym (reach-same i)) ∙ sym (read-answer t i)
 
     module _ (p : presentAt (reachOf (s .registers) i) ≡ true) where
-      there : readOf t i ≡ read (state (readRegisters (t .registers) c) (readLatches (t .registers) (t .latches) c)) 0 (shownIn t c)
+      there : readOf t i
+          ≡ read (state (readRegisters (t .registers) c) (readLatches (t .registers) (t .latches) c)) 0 (shownIn t c)
       there = read-state t i (ap presentAt (reach-same i) ∙ p) ∙ rw (reach-same i)
 
       accepted : ReadAlike s t i
@@ -106,7 +116,8 @@ module _ (s t : State) (ws : Whole s) (wt : Whole t) (a : Alike s t) where
             left =
                 rw (read-state s i p, there)
                 (alike _ _ (registers-same (s .registers) (t .registers) before c)
-                (latches-same (s .registers) (t .registers) before (s .latches) c ∙ ap (λ (l : Latches). readLatches (t .registers) l c) (a .latches)));
+                (latches-same (s .registers) (t .registers) before (s .latches) c
+                ∙ ap (λ (l : Latches). readLatches (t .registers) l c) (a .latches)));
             shown = λ j hj e. rw (read-state s i p, there) (bit-shown c j (present-cell c p) hj e);
           }
 

@@ -75,7 +75,8 @@ no-reset = same-tests 256 (λ o. isOn (cleared o) 7) (λ o. false) tt
 
 merged-bit : (o j : ℕ) → o < 256 → j < 8 → bit (mergeOf o 0b0100_1011 (cleared o)) j ≡ choose (eqb j 0) 0 (bit o j)
 unfolding bit mergeOf
-merged-bit = same-below2 256 8 (λ o j. bit (mergeOf o 0b0100_1011 (cleared o)) j) (λ o j. choose (eqb j 0) 0 (bit o j)) tt
+merged-bit =
+    same-below2 256 8 (λ o j. bit (mergeOf o 0b0100_1011 (cleared o)) j) (λ o j. choose (eqb j 0) 0 (bit o j)) tt
 
 module _ (s : State) (w : Whole s) where
   abbrev old : ℕ
@@ -91,11 +92,15 @@ module _ (s : State) (w : Whole s) where
   left-bits : (c j : ℕ) → j < 8 → bit (cellIn left c) j ≡ choose (eqb c configuration && eqb j 0) 0 (bit (cellIn s c) j)
   left-bits c j hj = go (ℕ-discrete c configuration)
     where
-      go : Dec (c ≡ configuration) → bit (cellIn left c) j ≡ choose (eqb c configuration && eqb j 0) 0 (bit (cellIn s c) j)
+      go : Dec (c ≡ configuration)
+          → bit (cellIn left c) j ≡ choose (eqb c configuration && eqb j 0) 0 (bit (cellIn s c) j)
       go (yes q) =
           rw q
-          (ap (λ (x : ℕ). bit x j) (getD-set-same (s .registers) configuration _ 0 (omega (arith, w .count))) ∙ merged-bit old j (w .bytes configuration) hj)
-      go (no n) = simp (ne-eqb c configuration n) (ap (λ (x : ℕ). bit x j) (getD-set-other (s .registers) configuration c _ 0 n))
+          (ap (λ (x : ℕ). bit x j) (getD-set-same (s .registers) configuration _ 0 (omega (arith, w .count)))
+          ∙ merged-bit old j (w .bytes configuration) hj)
+      go (no n) =
+          simp (ne-eqb c configuration n)
+          (ap (λ (x : ℕ). bit x j) (getD-set-other (s .registers) configuration c _ 0 n))
 
   left-other : (c : ℕ) → c ≢ configuration → cellIn left c ≡ cellIn s c
   left-other c n = getD-set-other (s .registers) configuration c _ 0 n

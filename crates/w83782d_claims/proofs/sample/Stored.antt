@@ -1,5 +1,5 @@
--- Bits that no rule names: every cell and bit that a sample or SMI looks at is another, so two states that differ in them go alike.
--- Assumes nothing.
+-- Bits that no rule names: every cell and bit that a sample or SMI looks at is another,
+-- so two states that differ in them go alike. Assumes nothing.
 use mathlib.Core.Path.{_≡_, refl, ap, ap₂, sym, subst, _∙_}
 use mathlib.Core.Bool.{Bool, true, false, not, _&&_, true≢false, false≢true}
 use mathlib.Core.List.{List}
@@ -85,21 +85,26 @@ module _ (rs ts : List ℕ) (e : Same rs ts) where
   -- ---- the stores of status and real-time bits
   statusStores-same : (l : Latches) → statusStores rs l ≡ statusStores ts l
   unfolding ruleless
-  statusStores-same l = status-stores rs ts (seen rs ts e) l (e .cell interruptStatus1 refl) (e .cell interruptStatus2 refl)
+  statusStores-same l =
+      status-stores rs ts (seen rs ts e) l (e .cell interruptStatus1 refl) (e .cell interruptStatus2 refl)
 
   evaluation-same : (l : Latches) → Same (statusRegisters rs l) (statusRegisters ts l)
   unfolding statusRegisters
-  evaluation-same l = subst (λ (ws : List Store). Same (puts rs ws) (statusRegisters ts l)) (sym (statusStores-same l)) (puts-same cells ruleless (statusStores ts l) rs ts e)
+  evaluation-same l =
+      subst (λ (ws : List Store). Same (puts rs ws) (statusRegisters ts l)) (sym (statusStores-same l))
+      (puts-same cells ruleless (statusStores ts l) rs ts e)
 
 -- ---- the bits themselves stay: no sample touches their registers
 untouched : (c : ℕ) → c < cells → (among touched (bankAt c) (indexAt c) && not (eqb (ruleless c) 0)) ≡ false
 unfolding touched ruleless
 untouched = same-tests cells (λ c. among touched (bankAt c) (indexAt c) && not (eqb (ruleless c) 0)) (λ c. false) tt
 
-bits-stay : (s : State) (x : Sample) (c j : ℕ) → c < cells → isOn (ruleless c) j ≡ true → bit (cellIn (after s x) c) j ≡ bit (cellIn s c) j
+bits-stay : (s : State) (x : Sample) (c j : ℕ) → c < cells → isOn (ruleless c) j ≡ true
+    → bit (cellIn (after s x) c) j ≡ bit (cellIn s c) j
 bits-stay s x c j h e = go (among touched (bankAt c) (indexAt c)) (eqb (ruleless c) 0) refl refl
   where
-    go : (b d : Bool) → among touched (bankAt c) (indexAt c) ≡ b → eqb (ruleless c) 0 ≡ d → bit (cellIn (after s x) c) j ≡ bit (cellIn s c) j
+    go : (b d : Bool) → among touched (bankAt c) (indexAt c) ≡ b → eqb (ruleless c) 0 ≡ d
+        → bit (cellIn (after s x) c) j ≡ bit (cellIn s c) j
     go false d p q = ap (λ (n : ℕ). bit n j) (frame s x .others c h p)
     go true true p q = absurd (true≢false (sym e ∙ plain-off c j (eqb-true (ruleless c) 0 q)))
     go true false p q = absurd (true≢false (sym (ap₂ (λ (y z : Bool). y && not z) p q) ∙ untouched c h))
@@ -110,7 +115,9 @@ module _ (s t : State) (x : Sample) (ws : Whole s) (wt : Whole t) (a : Alike s t
   before = same s t ws wt a
 
   answers : sampleOf s x .answer ≡ sampleOf t x .answer
-  answers = sample-answer s x ∙ answer-same (s .registers) (t .registers) (seen (s .registers) (t .registers) before) x ∙ sym (sample-answer t x)
+  answers =
+      sample-answer s x ∙ answer-same (s .registers) (t .registers) (seen (s .registers) (t .registers) before) x
+      ∙ sym (sample-answer t x)
 
   abbrev now : Same (storedReadings (s .registers) x) (storedReadings (t .registers) x)
   now = stored-same (s .registers) (t .registers) before x
@@ -130,7 +137,8 @@ module _ (s t : State) (x : Sample) (ws : Whole s) (wt : Whole t) (a : Alike s t
       go : Dec (sampleOf s x .answer ≡ 0) → after s x .latches ≡ after t x .latches
       go (yes q) =
           ap (λ (y : State). y .latches) (accepted-state s x q)
-          ∙ stepped-same (storedReadings (s .registers) x) (storedReadings (t .registers) x) (seen (storedReadings (s .registers) x) (storedReadings (t .registers) x) now) (s .latches)
+          ∙ stepped-same (storedReadings (s .registers) x) (storedReadings (t .registers) x)
+          (seen (storedReadings (s .registers) x) (storedReadings (t .registers) x) now) (s .latches)
           ∙ ap (steppedLatches (storedReadings (t .registers) x)) (a .latches)
           ∙ sym (ap (λ (y : State). y .latches) (accepted-state t x (sym answers ∙ q)))
       go (no n) = rw (refused-state s x n, refused-state t x (λ z. n (answers ∙ z))) (a .latches)
@@ -141,7 +149,9 @@ module _ (s t : State) (x : Sample) (ws : Whole s) (wt : Whole t) (a : Alike s t
         answer = answers;
         left = alike (after s x) (after t x) left-registers left-latches;
         stays = λ c j h hj e. bits-stay s x c j h e;
-        smi = smi-same (s .registers) (t .registers) before (s .latches .chassis) ∙ ap (λ (l : Latches). smiOf (t .registers) (l .chassis)) (a .latches);
+        smi =
+            smi-same (s .registers) (t .registers) before (s .latches .chassis)
+            ∙ ap (λ (l : Latches). smiOf (t .registers) (l .chassis)) (a .latches);
         smiAfter =
             smi-same (after s x .registers) (after t x .registers) left-registers (after s x .latches .chassis)
             ∙ ap (λ (l : Latches). smiOf (after t x .registers) (l .chassis)) left-latches;

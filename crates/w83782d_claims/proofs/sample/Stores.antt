@@ -22,11 +22,13 @@ use Rattle.w83782d_claims.specs.BusClaims.{cellIn}
 use Rattle.w83782d_claims.specs.SampleClaims.{after, touched, Frame}
 
 -- ---- readings and statusStores
-pub stored-at : (rs : List ℕ) (x : Sample) (c : ℕ) → c < length rs → getD (storedReadings rs x) c 0 ≡ lastOf (readings rs x) c (getD rs c 0)
+pub stored-at : (rs : List ℕ) (x : Sample) (c : ℕ) → c < length rs
+    → getD (storedReadings rs x) c 0 ≡ lastOf (readings rs x) c (getD rs c 0)
 unfolding storedReadings
 stored-at rs x c h = puts-at (readings rs x) rs c h
 
-pub stored-other : (rs : List ℕ) (x : Sample) (c : ℕ) → isOf c (cellsOf (readings rs x)) ≡ false → getD (storedReadings rs x) c 0 ≡ getD rs c 0
+pub stored-other : (rs : List ℕ) (x : Sample) (c : ℕ) → isOf c (cellsOf (readings rs x)) ≡ false
+    → getD (storedReadings rs x) c 0 ≡ getD rs c 0
 unfolding storedReadings
 stored-other rs x c n = puts-other (readings rs x) rs c n
 
@@ -34,11 +36,13 @@ pub stored-length : (rs : List ℕ) (x : Sample) → length (storedReadings rs x
 unfolding storedReadings
 stored-length rs x = puts-length (readings rs x) rs
 
-evaluation-at : (rs : List ℕ) (l : Latches) (c : ℕ) → c < length rs → getD (statusRegisters rs l) c 0 ≡ lastOf (statusStores rs l) c (getD rs c 0)
+evaluation-at : (rs : List ℕ) (l : Latches) (c : ℕ) → c < length rs
+    → getD (statusRegisters rs l) c 0 ≡ lastOf (statusStores rs l) c (getD rs c 0)
 unfolding statusRegisters
 evaluation-at rs l c h = puts-at (statusStores rs l) rs c h
 
-evaluation-other : (rs : List ℕ) (l : Latches) (c : ℕ) → isOf c (cellsOf (statusStores rs l)) ≡ false → getD (statusRegisters rs l) c 0 ≡ getD rs c 0
+evaluation-other : (rs : List ℕ) (l : Latches) (c : ℕ) → isOf c (cellsOf (statusStores rs l)) ≡ false
+    → getD (statusRegisters rs l) c 0 ≡ getD rs c 0
 unfolding statusRegisters
 evaluation-other rs l c n = puts-other (statusStores rs l) rs c n
 
@@ -56,17 +60,20 @@ sample-answer s x =
 pub accepted-state : (s : State) (x : Sample) → sampleOf s x .answer ≡ 0 → after s x ≡ sampledState s x
 unfolding sampleOf
 accepted-state s x =
-    choose-ind (λ (w : Written). w .answer ≡ 0 → w .state ≡ sampledState s x) (eqb (sampleAnswer (s .registers) x) 0) _ _ (λ _ _. refl)
+    choose-ind (λ (w : Written). w .answer ≡ 0 → w .state ≡ sampledState s x)
+    (eqb (sampleAnswer (s .registers) x) 0) _ _ (λ _ _. refl)
     (λ e a. absurd (eqb-false (sampleAnswer (s .registers) x) 0 e a))
 
 pub refused-state : (s : State) (x : Sample) → sampleOf s x .answer ≢ 0 → after s x ≡ s
 unfolding sampleOf
 refused-state s x =
-    choose-ind (λ (w : Written). w .answer ≢ 0 → w .state ≡ s) (eqb (sampleAnswer (s .registers) x) 0) _ _ (λ _ n. absurd (n refl)) (λ _ _. refl)
+    choose-ind (λ (w : Written). w .answer ≢ 0 → w .state ≡ s) (eqb (sampleAnswer (s .registers) x) 0) _ _
+    (λ _ n. absurd (n refl)) (λ _ _. refl)
 
 -- what an accepted sample leaves in a cell
 pub left-at : (s : State) (x : Sample) (c : ℕ) → sampleOf s x .answer ≡ 0 → c < length (s .registers)
-    → cellIn (after s x) c ≡ lastOf (statusStores (storedReadings (s .registers) x) (s .latches)) c (lastOf (readings (s .registers) x) c (cellIn s c))
+    → cellIn (after s x) c ≡ lastOf (statusStores (storedReadings (s .registers) x) (s .latches)) c
+    (lastOf (readings (s .registers) x) c (cellIn s c))
 left-at s x c a h =
     ap (λ (t : State). cellIn t c) (accepted-state s x a)
     ∙ evaluation-at (storedReadings (s .registers) x) (s .latches) c (rw stored-length h)
@@ -89,7 +96,8 @@ module _ (s : State) (x : Sample) where
         count = evaluation-length (storedReadings (s .registers) x) (s .latches) ∙ stored-length (s .registers) x;
         others = λ c h n.
             let m : isOf c stores ≡ false = sym (touched-cells c h) ∙ n in
-            evaluation-other (storedReadings (s .registers) x) (s .latches) c (fewer (cellsOf (statusStores (storedReadings (s .registers) x) (s .latches))) stores c refl m)
+            evaluation-other (storedReadings (s .registers) x) (s .latches) c
+            (fewer (cellsOf (statusStores (storedReadings (s .registers) x) (s .latches))) stores c refl m)
             ∙ stored-other (s .registers) x c (fewer (cellsOf (readings (s .registers) x)) stores c refl m);
         chassis = refl;
       }

@@ -32,7 +32,8 @@ returns c =
     let rail2 = rail3 .before in
     let rail1 = rail2 .before in
     let rail0 = rail1 .before in
-    first-packed _ _ _ _ _ _ _ _ (rail0 .outside .ensures) (rail1 .outside2 .ensures) (rail2 .outside3 .ensures) (rail3 .outside4 .ensures)
+    first-packed _ _ _ _ _ _ _ _ (rail0 .outside .ensures) (rail1 .outside2 .ensures) (rail2 .outside3 .ensures)
+    (rail3 .outside4 .ensures)
     (fan1 .slow .ensures) (fan2 .slow2 .ensures) (c .pack .ensures)
 
 pub first-byte-spec : {M : Type 1} → statement M

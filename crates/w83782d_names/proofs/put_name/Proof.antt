@@ -1,4 +1,5 @@
-use Rattle.w83782d_names.proofs.Cases.{put-below, put-of-reading, put-of-control, put-of-bank, put-again, put-above, names}
+use Rattle.w83782d_names.proofs.Cases.{put-below, put-of-reading, put-of-control, put-of-bank}
+use Rattle.w83782d_names.proofs.Cases.{put-again, put-above, names}
 use borrow.Author.Needs.{needs}
 use Rattle.w83782d_names.proofs.put_name.Statement.{statement}
 use Rattle.w83782d_names.proofs.put_name.Tie as tie

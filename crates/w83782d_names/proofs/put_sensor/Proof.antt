@@ -40,7 +40,8 @@ returns-2 c =
     let low = word .before .before in
     let start = low .before .before .before in
     put-sensor-name _ (start .args .index) _ _ _ _ _ _ (low .if1 .left) (word .put-bytes2 .ensures)
-    (put-named 0x50 20 7 sensorRows (start .args .index) (start .pre .0, omega arith) _ _ _ _ _ (call .put-row .ensures) tt)
+    (put-named 0x50 20 7 sensorRows (start .args .index) (start .pre .0, omega arith) _ _ _ _ _
+    (call .put-row .ensures) tt)
 
 pub put-sensor-spec : {M : Type 1} → statement M
 put-sensor-spec =

@@ -33,7 +33,8 @@ module _ (rs : List ℕ) (chassis : Bool) (c : ℕ) (e : c ≡ getD rs configura
         simp (← e, ← f, not-false a n, ← g, t, ← ex, ← em, ← ek, ← ey, ← ez) er
 
 pub alarms-counted : (rs : List ℕ) (chassis : Bool) (x y z n : ℕ) → x ≡ getD rs interruptStatus1 0
-    → y ≡ getD rs interruptStatus2 0 → z ≡ withChassis y chassis → (n ≡ alarmCount x z) × (n ≤ 16) → n ≡ standingAlarms rs chassis
+    → y ≡ getD rs interruptStatus2 0 → z ≡ withChassis y chassis → (n ≡ alarmCount x z) × (n ≤ 16)
+    → n ≡ standingAlarms rs chassis
 unfolding standingAlarms
 alarms-counted rs chassis x y z n ex ey ez h = rw (← ey, ← ez, ← ex) (h .0)
 
@@ -43,7 +44,8 @@ module _ (rs : List ℕ) (chassis : Bool) where
   unfolding outputsOf
   outputs-short n = simp (ne-eqb (length rs) cells n)
 
-  pub outputs-shown : (b : Bool) (n : ℕ) → length rs ≡ cells → b ≡ smiOf rs chassis → (n ≡ standingAlarms rs chassis) × (n ≤ 16)
+  pub outputs-shown : (b : Bool) (n : ℕ) → length rs ≡ cells → b ≡ smiOf rs chassis
+      → (n ≡ standingAlarms rs chassis) × (n ≤ 16)
       → Shown b n ≡ outputsOf rs chassis
   unfolding outputsOf
   outputs-shown b n h e f = simp (eq-eqb (length rs) cells h, e, f .0)

@@ -42,13 +42,25 @@ half-degrees-requires-3 : tie.Need-half-degrees-requires-3
 half-degrees-requires-3 c κs = search needs
 
 returns-2 : tie.Need-returns-2
-returns-2 c = (ap HalfDegrees (toZ-ofZ w16 (c .half-degrees .result) (record { sfits = c .half-degrees .ok })) ∙ search (needs, sensor-1), reading-claims)
+returns-2 c = (
+  ap HalfDegrees (toZ-ofZ w16 (c .half-degrees .result) (record { sfits = c .half-degrees .ok }))
+      ∙ search (needs, sensor-1),
+  reading-claims,
+)
 
 returns-3 : tie.Need-returns-3
-returns-3 c = (ap HalfDegrees (toZ-ofZ w16 (c .half-degrees2 .result) (record { sfits = c .half-degrees2 .ok })) ∙ search (needs, sensor-2), reading-claims)
+returns-3 c = (
+  ap HalfDegrees (toZ-ofZ w16 (c .half-degrees2 .result) (record { sfits = c .half-degrees2 .ok }))
+      ∙ search (needs, sensor-2),
+  reading-claims,
+)
 
 returns-4 : tie.Need-returns-4
-returns-4 c = (ap HalfDegrees (toZ-ofZ w16 (c .half-degrees3 .result) (record { sfits = c .half-degrees3 .ok })) ∙ search (needs, sensor-3), reading-claims)
+returns-4 c = (
+  ap HalfDegrees (toZ-ofZ w16 (c .half-degrees3 .result) (record { sfits = c .half-degrees3 .ok }))
+      ∙ search (needs, sensor-3),
+  reading-claims,
+)
 
 returns-5 : tie.Need-returns-5
 returns-5 c = (search (needs, no-sensor), reading-claims)

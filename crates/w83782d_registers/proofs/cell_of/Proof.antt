@@ -1,5 +1,6 @@
 use borrow.Author.Needs.{needs}
-use Rattle.w83782d_registers.proofs.Cases.{cell-below, cell-above, cell-alias, cell-any, cell-bank-0, cell-bank-1, cell-bank-2, cell-bank-4, cell-bank-none}
+use Rattle.w83782d_registers.proofs.Cases.{cell-below, cell-above, cell-alias, cell-any, cell-bank-0}
+use Rattle.w83782d_registers.proofs.Cases.{cell-bank-1, cell-bank-2, cell-bank-4, cell-bank-none}
 use Rattle.w83782d_registers.proofs.cell_of.Statement.{statement}
 use Rattle.w83782d_registers.proofs.cell_of.Tie as tie
 

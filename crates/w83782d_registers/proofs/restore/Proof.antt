@@ -40,8 +40,11 @@ loop-less c = search needs
 
 loop-again : tie.Need-loop-again Inv-loop μ-loop
 loop-again c =
-    let l = c .before .before .before .loop in
-    (omega arith, simp length-set (l .inv .1), rw add-one (restore-next _ _ _ (l .cell) _ (search needs) (omega arith) (l .inv .2) (c .restored .ensures)))
+    let l = c .before .before .before .loop in (
+      omega arith,
+      simp length-set (l .inv .1),
+      rw add-one (restore-next _ _ _ (l .cell) _ (search needs) (omega arith) (l .inv .2) (c .restored .ensures)),
+    )
 
 same-length : tie.Need-same-length Inv-loop μ-loop
 same-length c = search needs
@@ -50,7 +53,8 @@ returns-2 : tie.Need-returns-2 Inv-loop μ-loop
 returns-2 c =
     let l = c .before .loop in
     let e : l .cell ≡ cells = omega arith in
-    l .inv .2 ∙ ap (over _ _) e ∙ over-all _ _ cells (restored-count _ _) (search needs) ∙ restored-in _ _ (search needs)
+    l .inv .2 ∙ ap (over _ _) e ∙ over-all _ _ cells (restored-count _ _) (search needs)
+    ∙ restored-in _ _ (search needs)
 
 pub restore-spec : {M : Type 1} → statement M
 restore-spec =

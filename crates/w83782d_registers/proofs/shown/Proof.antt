@@ -1,5 +1,6 @@
 use borrow.Author.Needs.{needs}
-use Rattle.w83782d_registers.proofs.Cases.{shown-configuration, shown-status, shown-clear, shown-divisor, shown-device, shown-vendor, shown-chip, shown-cell}
+use Rattle.w83782d_registers.proofs.Cases.{shown-configuration, shown-status, shown-clear, shown-divisor}
+use Rattle.w83782d_registers.proofs.Cases.{shown-device, shown-vendor, shown-chip, shown-cell}
 use Rattle.w83782d_registers.proofs.shown.Statement.{statement}
 use Rattle.w83782d_registers.proofs.shown.Tie as tie
 

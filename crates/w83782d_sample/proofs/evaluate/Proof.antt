@@ -43,7 +43,8 @@ returns c =
     let two = three .before in
     let one = two .before in
     let found = one .before .before .before .before in
-    evaluation _ _ _ _ _ _ _ _ _ _ (found .before .before .before .before .pre) (found .compare .ensures) (one .status-step .ensures) (two .remote-step .ensures) (three .remote-step2 .ensures)
+    evaluation _ _ _ _ _ _ _ _ _ _ (found .before .before .before .before .pre) (found .compare .ensures)
+    (one .status-step .ensures) (two .remote-step .ensures) (three .remote-step2 .ensures)
     (real1 .sensors .ensures) (real2 .sensors2 .ensures) (latched1 .sensors3 .ensures) (latched2 .sensors4 .ensures)
 
 pub evaluate-spec : {M : Type 1} → statement M

@@ -35,7 +35,8 @@ returns-3 c =
     let set = c .before .before .before .before in
     let stored = set .before .before .before .before in
     let answered = stored .before .before .before in
-    sample-accepted _ _ _ (search needs) _ (answered .answer-to .ensures) _ _ _ (search needs) (stored .store .ensures) (set .set-status .ensures)
+    sample-accepted _ _ _ (search needs) _ (answered .answer-to .ensures) _ _ _ (search needs) (stored .store .ensures)
+    (set .set-status .ensures)
 
 pub sample-in-spec : {M : Type 1} → statement M
 sample-in-spec =

@@ -35,7 +35,9 @@ returns-2 c =
     let x = p .before .before .before .args .t2 in
     let f : SFits w16 (sampledHalves x 2) = search needs in
     let g : SFits w16 (sampledHalves x 3) = search needs in
-    answer-3 _ x _ (p .is-outside .ensures ∙ ap outside (toZ-ofZ w16 (sampledHalves x 2) f)) (q .before .before .if1 .left) _ (q .is-outside2 .ensures ∙ ap outside (toZ-ofZ w16 (sampledHalves x 3) g)) (c .if2 .taken)
+    answer-3 _ x _ (p .is-outside .ensures ∙ ap outside (toZ-ofZ w16 (sampledHalves x 2) f))
+    (q .before .before .if1 .left) _ (q .is-outside2 .ensures ∙ ap outside (toZ-ofZ w16 (sampledHalves x 3) g))
+    (c .if2 .taken)
 
 cell-requires : tie.Need-cell-requires
 cell-requires c κs = search needs
@@ -52,7 +54,9 @@ returns-3 c =
     let x = p .before .before .before .args .t2 in
     let f : SFits w16 (sampledHalves x 2) = search needs in
     let g : SFits w16 (sampledHalves x 3) = search needs in
-    answer-stopped _ x _ (p .is-outside .ensures ∙ ap outside (toZ-ofZ w16 (sampledHalves x 2) f)) (q .before .before .if1 .left) _ (q .is-outside2 .ensures ∙ ap outside (toZ-ofZ w16 (sampledHalves x 3) g)) _ _ (y .before .if2 .left) (y .cell .ensures) (t .stopped .ensures) (c .if3 .taken)
+    answer-stopped _ x _ (p .is-outside .ensures ∙ ap outside (toZ-ofZ w16 (sampledHalves x 2) f))
+    (q .before .before .if1 .left) _ (q .is-outside2 .ensures ∙ ap outside (toZ-ofZ w16 (sampledHalves x 3) g)) _ _
+    (y .before .if2 .left) (y .cell .ensures) (t .stopped .ensures) (c .if3 .taken)
 
 returns-4 : tie.Need-returns-4
 returns-4 c =
@@ -63,7 +67,9 @@ returns-4 c =
     let x = p .before .before .before .args .t2 in
     let f : SFits w16 (sampledHalves x 2) = search needs in
     let g : SFits w16 (sampledHalves x 3) = search needs in
-    answer-accepted _ x _ (p .is-outside .ensures ∙ ap outside (toZ-ofZ w16 (sampledHalves x 2) f)) (q .before .before .if1 .left) _ (q .is-outside2 .ensures ∙ ap outside (toZ-ofZ w16 (sampledHalves x 3) g)) _ _ (y .before .if2 .left) (y .cell .ensures) (t .stopped .ensures) (c .if3 .left)
+    answer-accepted _ x _ (p .is-outside .ensures ∙ ap outside (toZ-ofZ w16 (sampledHalves x 2) f))
+    (q .before .before .if1 .left) _ (q .is-outside2 .ensures ∙ ap outside (toZ-ofZ w16 (sampledHalves x 3) g)) _ _
+    (y .before .if2 .left) (y .cell .ensures) (t .stopped .ensures) (c .if3 .left)
 
 pub answer-to-spec : {M : Type 1} → statement M
 answer-to-spec =

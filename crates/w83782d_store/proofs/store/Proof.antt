@@ -42,7 +42,8 @@ returns-2 c =
     let x = a .before .before .before .before .args .t2 in
     let f : SFits w16 (sampledHalves x 2) = search needs in
     let g : SFits w16 (sampledHalves x 3) = search needs in
-    readings-stored _ _ _ _ _ x (a .store-counts .ensures) (k .store-codes .ensures) (h .store-halves .ensures ∙ ap (withHalves _ 64) (toZ-ofZ w16 (sampledHalves x 2) f))
+    readings-stored _ _ _ _ _ x (a .store-counts .ensures) (k .store-codes .ensures)
+    (h .store-halves .ensures ∙ ap (withHalves _ 64) (toZ-ofZ w16 (sampledHalves x 2) f))
     (d .store-halves2 .ensures ∙ ap (withHalves _ 80) (toZ-ofZ w16 (sampledHalves x 3) g))
     ∙ stored-in _ x (search needs)
 

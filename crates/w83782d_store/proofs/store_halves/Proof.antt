@@ -44,7 +44,8 @@ returns : tie.Need-returns
 returns c =
     let a = c .before .before .before .before .before .args in
     let f : SFits w16 (a .halves) = search needs in
-    halves-stored (a .s .now) (a .bank) _ _ (a .halves) _ (c .before .before .before .half-code .ensures .0 ∙ ap halfCodeOf (toZ-ofZ w16 (a .halves) f)) (search needs)
+    halves-stored (a .s .now) (a .bank) _ _ (a .halves) _
+    (c .before .before .before .half-code .ensures .0 ∙ ap halfCodeOf (toZ-ofZ w16 (a .halves) f)) (search needs)
 
 same-length-2 : tie.Need-same-length-2
 same-length-2 c = search needs
@@ -53,7 +54,8 @@ returns-2 : tie.Need-returns-2
 returns-2 c =
     let a = c .before .before .before .before .args in
     let f : SFits w16 (a .halves) = search needs in
-    halves-none (a .s .now) (a .bank) (a .halves) _ (c .before .before .half-code .ensures .0 ∙ ap halfCodeOf (toZ-ofZ w16 (a .halves) f)) (c .enum-told .given .1)
+    halves-none (a .s .now) (a .bank) (a .halves) _
+    (c .before .before .half-code .ensures .0 ∙ ap halfCodeOf (toZ-ofZ w16 (a .halves) f)) (c .enum-told .given .1)
 
 pub store-halves-spec : {M : Type 1} → statement M
 store-halves-spec =

@@ -55,7 +55,8 @@ returns-4 : tie.Need-returns-4
 returns-4 c =
     let r = c .before .before in (
       c .rail .ensures
-          ∙ negative _ _ _ _ (r .if1 .left) (r .before .match .rest .0 .1) (r .before .match .rest .1) (c .before .if2 .taken),
+          ∙ negative _ _ _ _ (r .if1 .left) (r .before .match .rest .0 .1) (r .before .match .rest .1)
+          (c .before .if2 .taken),
       answers-hold,
     )
 

@@ -31,15 +31,18 @@ second c = sym (c .before .is-resistor2 .ensures) ∙ not-false _ (c .if2 .left)
 
 returns-2 : tie.Need-returns-2
 returns-2 c =
-    second-refused _ _ _ (first (c .before .before)) (sym (c .before .is-resistor2 .ensures) ∙ not-true _ (c .if2 .taken))
+    second-refused _ _ _ (first (c .before .before))
+    (sym (c .before .is-resistor2 .ensures) ∙ not-true _ (c .if2 .taken))
 
 mul-quotient : tie.Need-mul-quotient
 mul-quotient c = search needs
 
-r5-range : (c : tie.Else2) → (1 ≤ c .before .before .before .before .args .r5) × (c .before .before .before .before .args .r5 ≤ 1000)
+r5-range : (c : tie.Else2)
+    → (1 ≤ c .before .before .before .before .args .r5) × (c .before .before .before .before .args .r5 ≤ 1000)
 r5-range c = resistor-range (c .before .before .before .before .args .r5) (first (c .before .before))
 
-r6-range : (c : tie.Else2) → (1 ≤ c .before .before .before .before .args .r6) × (c .before .before .before .before .args .r6 ≤ 1000)
+r6-range : (c : tie.Else2)
+    → (1 ≤ c .before .before .before .before .args .r6) × (c .before .before .before .before .args .r6 ≤ 1000)
 r6-range c = resistor-range (c .before .before .before .before .args .r6) (second c)
 
 add-quotient : tie.Need-add-quotient

@@ -1,5 +1,5 @@
--- Each arm has the low three bits as a number, at which the list of the eight computes; the last arm is what is left, 7.
--- Assumes nothing.
+-- Each arm has the low three bits as a number, at which the list of the eight computes;
+-- the last arm is what is left, 7. Assumes nothing.
 use native.Mathlib.Omega.{arith}
 use Prim.Native.Nat.{ℕ, _+_, _%_, _≤_}
 use mathlib.Core.Path.{_≡_}
@@ -39,11 +39,14 @@ returns-7 c = bits-of _ (rw (c .match .keys7))
 above : (k : ℕ) {x : ℕ} → k ≤ x → (x ≡ k → ⊥) → k + 1 ≤ x
 above k h n = omega (arith, n)
 
-left : (x : ℕ) → (((((((Unit {0} × (x ≡ 0 → ⊥)) × (x ≡ 1 → ⊥)) × (x ≡ 2 → ⊥)) × (x ≡ 3 → ⊥)) × (x ≡ 4 → ⊥)) × (x ≡ 5 → ⊥)) × (x ≡ 6 → ⊥)) → 7 ≤ x
+left : (x : ℕ) → (((((((Unit {0} × (x ≡ 0 → ⊥)) × (x ≡ 1 → ⊥)) × (x ≡ 2 → ⊥)) × (x ≡ 3 → ⊥)) × (x ≡ 4 → ⊥))
+    × (x ≡ 5 → ⊥)) × (x ≡ 6 → ⊥)) → 7 ≤ x
 left x r =
     above 6
     (above 5
-    (above 4 (above 3 (above 2 (above 1 (above 0 (omega arith) (r .0 .0 .0 .0 .0 .0 .1)) (r .0 .0 .0 .0 .0 .1)) (r .0 .0 .0 .0 .1)) (r .0 .0 .0 .1))
+    (above 4 (above 3
+    (above 2 (above 1 (above 0 (omega arith) (r .0 .0 .0 .0 .0 .0 .1)) (r .0 .0 .0 .0 .0 .1)) (r .0 .0 .0 .0 .1))
+    (r .0 .0 .0 .1))
     (r .0 .0 .1))
     (r .0 .1))
     (r .1)

@@ -26,7 +26,8 @@ loop-holds : tie.Need-loop-holds Inv-loop μ-loop
 unfolding bestTo
 loop-holds c = (
   omega arith,
-  c .choice-at .ensures ∙ ap (λ (d : Divisor). choiceAt (c .before .before .args .k) d) (c .before .from-bits .ensures .0),
+  c .choice-at .ensures
+      ∙ ap (λ (d : Divisor). choiceAt (c .before .before .args .k) d) (c .before .from-bits .ensures .0),
 )
 
 add-from-bits : tie.Need-add-from-bits Inv-loop μ-loop
@@ -46,8 +47,11 @@ loop-less c = omega arith
 
 loop-again : tie.Need-loop-again Inv-loop μ-loop
 loop-again c =
-    let l = c .before .before .before .loop in
-    (omega arith, one-more _ (l .e) (l .best) _ _ (l .inv .1) (c .before .from-bits2 .ensures .0) (c .better-of .ensures))
+    let l = c .before .before .before .loop in (
+      omega arith,
+      one-more _ (l .e) (l .best) _ _ (l .inv .1) (c .before .from-bits2 .ensures .0)
+          (c .better-of .ensures),
+    )
 
 returns : tie.Need-returns Inv-loop μ-loop
 returns c =

@@ -17,12 +17,14 @@ product-requires-2 c κs = search needs
 returns : tie.Need-returns
 returns c =
     let at = c .before .before .before in
-    taken _ _ _ _ _ _ (at .choice-at .ensures) (c .before .before .product .ensures) (c .before .product2 .ensures) (c .if1 .taken)
+    taken _ _ _ _ _ _ (at .choice-at .ensures) (c .before .before .product .ensures) (c .before .product2 .ensures)
+    (c .if1 .taken)
 
 returns-2 : tie.Need-returns-2
 returns-2 c =
     let at = c .before .before .before in
-    kept _ _ _ _ _ _ (at .choice-at .ensures) (c .before .before .product .ensures) (c .before .product2 .ensures) (c .if1 .left)
+    kept _ _ _ _ _ _ (at .choice-at .ensures) (c .before .before .product .ensures) (c .before .product2 .ensures)
+    (c .if1 .left)
 
 pub better-of-spec : {M : Type 1} → statement M
 better-of-spec =

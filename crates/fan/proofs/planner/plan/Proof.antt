@@ -1,5 +1,5 @@
--- The three ways through the code are the cases of the computed plan; that this is the plan is proved in proofs/Planning.
--- Assumes nothing.
+-- The three ways through the code are the cases of the computed plan; that this is the
+-- plan is proved in proofs/Planning. Assumes nothing.
 use native.Mathlib.Omega.{arith}
 use borrow.Author.Needs.{needs}
 use Rattle.fan.proofs.planner.Planning.{none-asked, too-much-asked, found, counts-of, promised}
@@ -21,7 +21,11 @@ best-choice-requires c κs = search needs
 sub-t6 : tie.Need-sub-t6
 sub-t6 c =
     let b = c .before in
-    omega (arith, counts-of (b .before .before .before .args .w) (b .best-choice .result) (b .before .before .if1 .left) (b .before .if2 .left) (b .best-choice .ensures))
+    omega (
+      arith,
+      counts-of (b .before .before .before .args .w) (b .best-choice .result) (b .before .before .if1 .left)
+          (b .before .if2 .left) (b .best-choice .ensures),
+    )
 
 returns-3 : tie.Need-returns-3
 returns-3 c =

@@ -24,7 +24,8 @@ div-result : tie.Need-div-result
 div-result c = search needs
 
 cast-result : tie.Need-cast-result
-cast-result c = record { fits = within (c .before .args .n) (c .before .args .d) (2 ^ 32) (search needs) (search needs) }
+cast-result c =
+    record { fits = within (c .before .args .n) (c .before .args .d) (2 ^ 32) (search needs) (search needs) }
 
 returns-2 : tie.Need-returns-2
 unfolding nearest

@@ -24,10 +24,13 @@ returns c =
     let m = c .before .before .before .before .before .before .before .args .self in
     let e = c .before .before .before .before .before .before .before .args .event in
     let fits : (k : ℕ) → Fits w8 (getD (m .registers) k 0) = λ k. search needs in
-    let byte : SFits w8 (e .sample .sensor1) = search (needs, c .before .before .before .before .before .before .before .good .1) in
+    let byte : SFits w8 (e .sample .sensor1) =
+    search (needs, c .before .before .before .before .before .before .before .good .1) in
     let done = c .before .before .before .take-in .ensures in
     let equation = shown-as (m .registers) (m .latches) (search needs) _ _ _ _ done (c .of .ensures) in
-    let status = status-claims (stateOf m) (e .sample) (record { count = search needs; bytes = λ k. fits k .fits }) byte (e .kind) in
+    let status =
+    status-claims (stateOf m) (e .sample) (record { count = search needs; bytes = λ k. fits k .fits }) byte
+    (e .kind) in
     (equation, (event-calls, status))
 
 pub apply-spec : {M : Type 1} → statement M

@@ -1,5 +1,5 @@
--- The loop's invariant: the bytes from 120 up to this one are 0, every other is as it was. The measure is what is left of 128.
--- Assumes nothing.
+-- The loop's invariant: the bytes from 120 up to this one are 0, every other is as it
+-- was. The measure is what is left of 128. Assumes nothing.
 use Prim.Native.Nat.{_≤_, _-_}
 use native.Mathlib.Omega.{arith}
 use mathlib.Core.Path.{_≡_, refl, sym, _∙_}
@@ -14,7 +14,9 @@ use Rattle.w83782d_image.proofs.latches.clear_spare.Statement.{statemen
 use Rattle.w83782d_image.proofs.latches.clear_spare.Tie as tie
 
 abbrev Inv-loop : tie.InvT-loop
-Inv-loop image₀ at₀ image at = (120 ≤ at) × (at ≤ 128) × (length image ≡ length image₀) × (image ≡ sets image₀ 120 (tabulate (at - 120) 120 cleared-byte))
+Inv-loop image₀ at₀ image at =
+    (120 ≤ at) × (at ≤ 128) × (length image ≡ length image₀)
+    × (image ≡ sets image₀ 120 (tabulate (at - 120) 120 cleared-byte))
 
 abbrev μ-loop : tie.MeasureT-loop
 μ-loop image₀ at₀ image at = 128 - at

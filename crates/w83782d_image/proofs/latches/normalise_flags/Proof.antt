@@ -1,5 +1,5 @@
--- The loop's invariant: the flags from 112 up to this one are 0 or 1, every other byte is as it was. The measure is what is
--- left of 120. Assumes nothing.
+-- The loop's invariant: the flags from 112 up to this one are 0 or 1, every other byte is
+-- as it was. The measure is what is left of 120. Assumes nothing.
 use Prim.Native.Nat.{_≤_, _-_}
 use native.Mathlib.Omega.{arith}
 use mathlib.Core.Path.{_≡_, refl}
@@ -14,7 +14,8 @@ use Rattle.w83782d_image.proofs.latches.normalise_flags.Tie as tie
 
 abbrev Inv-loop : tie.InvT-loop
 Inv-loop image₀ at₀ image at =
-    (112 ≤ at) × (at ≤ 120) × (length image ≡ length image₀) × (image ≡ sets image₀ 112 (tabulate (at - 112) 112 (normalised image₀)))
+    (112 ≤ at) × (at ≤ 120) × (length image ≡ length image₀)
+    × (image ≡ sets image₀ 112 (tabulate (at - 112) 112 (normalised image₀)))
 
 abbrev μ-loop : tie.MeasureT-loop
 μ-loop image₀ at₀ image at = 120 - at
@@ -50,7 +51,8 @@ loop-again c =
       omega arith,
       omega arith,
       search needs,
-      normalises-next (turn .before .before .before .args .image .now) _ _ _ _ _ (inv .0) (inv .3) (look .cell .ensures) (byte .flag .ensures) (put .put .ensures),
+      normalises-next (turn .before .before .before .args .image .now) _ _ _ _ _ (inv .0) (inv .3) (look .cell .ensures)
+          (byte .flag .ensures) (put .put .ensures),
     )
 
 same-length : tie.Need-same-length Inv-loop μ-loop

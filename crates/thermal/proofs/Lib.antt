@@ -1,0 +1,5 @@
+mod Examples
+pub mod Offsets
+pub mod Quotients
+pub mod Moves
+pub mod Steps

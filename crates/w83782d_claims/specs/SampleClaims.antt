@@ -110,8 +110,8 @@ statusFor s x n =
 
 unfoldable pub outputFor : State → Sample → ℕ → Output
 outputFor s x n =
-    outputOf (outputMode (s .registers) n) (remoteOf (s .latches) n .output) (isHotter (s .registers) x n)
-    (isColder (s .registers) x n)
+    outputOf (outputMode (s .registers) n) (remoteOf (s .latches) n .output)
+    (isHotter (s .registers) x n) (isColder (s .registers) x n)
 
 -- S-9: voltages and fans latch where their condition is true, temperatures by their step, and no sample the chassis
 abbrev pub latchesFor : State → Sample → Source → Bool

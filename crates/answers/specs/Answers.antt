@@ -1,4 +1,4 @@
--- The answer numbers (rules A-0 to A-8, A-12): every call is answered by one of them, 0 where it is accepted.
+-- The answer numbers (rules A-0 to A-9, A-12): every call is answered by one of them, 0 where it is accepted.
 use Prim.Native.Nat.{ℕ}
 
 -- A-1: no register at the index, or its bank is absent
@@ -32,6 +32,10 @@ noChannel = 7
 -- A-8: a buffer, slice, image or list of codes of another length
 abbrev pub wrongLength : ℕ
 wrongLength = 8
+
+-- A-9: a bus write to the offset of a temperature
+abbrev pub offsetLocked : ℕ
+offsetLocked = 9
 
 -- A-12: a whole record after those of a day
 abbrev pub dayFull : ℕ

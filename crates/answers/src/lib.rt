@@ -1,4 +1,4 @@
-// The answer numbers (rules A-0 to A-8, A-12): every call is answered by one of them.
+// The answer numbers (rules A-0 to A-9, A-12): every call is answered by one of them.
 
 // A-0: accepted.
 pub const ACCEPTED: u8 = 0;
@@ -26,6 +26,9 @@ pub const NO_CHANNEL: u8 = 7;
 
 // A-8: a buffer, slice, image or list of codes of another length.
 pub const WRONG_LENGTH: u8 = 8;
+
+// A-9: a bus write to the offset of a temperature.
+pub const OFFSET_LOCKED: u8 = 9;
 
 // A-12: a whole record after those of a day.
 pub const DAY_FULL: u8 = 12;

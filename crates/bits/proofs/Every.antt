@@ -3,7 +3,9 @@
 use mathlib.Core.Path.{_≡_, subst, sym, refl}
 use mathlib.Core.Bool.{Bool, true, false, Bool·beq}
 use mathlib.Core.Logic.{⊎-elim}
-use Prim.Native.Nat.{ℕ, zero, suc, _-_, _<_}
+use Prim.Native.Nat.{ℕ, zero, suc, _-_, _<_, _≤_}
+use native.Mathlib.Decide.{decLt}
+use native.Mathlib.Omega.{arith}
 use native.Mathlib.Nat.{not-suc-le-zero, eq-or-lt-of-le, le-of-suc-le-suc}
 use lib.Dec.{T, eqb, eqb→eq, ltb, ltb→lt}
 
@@ -32,6 +34,14 @@ every-at f (suc n) t k h =
 
 pub every-at2 : (f : ℕ → ℕ → Bool) (n m : ℕ) → T (every (λ a. every (f a) m) n) → (a b : ℕ) → a < n → b < m → T (f a b)
 every-at2 f n m t a b ha hb = every-at (f a) m (every-at (λ x. every (f x) m) n t a ha) b hb
+
+-- by a number below n, or from n on
+pub by-bound : {A : Type 0} (n k : ℕ) → (k < n → A) → (n ≤ k → A) → A
+by-bound {A} n k below beyond = go (decLt k n)
+  where
+    go : Dec (k < n) → A
+    go (yes h) = below h
+    go (no m) = beyond (omega arith)
 
 -- two functions agree below n, by computing both
 pub same-below : (n : ℕ) (f g : ℕ → ℕ) → T (every (λ k. eqb (f k) (g k)) n) → (k : ℕ) → k < n → f k ≡ g k

@@ -4,10 +4,10 @@ use mathlib.Core.Path.{_≡_, subst, sym}
 use mathlib.Core.Bool.{Bool, true, false, _||_}
 use mathlib.Core.List.{List, [], _∷_}
 use mathlib.Core.Logic.{_⊎_, inl, inr, ⊎-elim}
-use Prim.Native.Nat.{ℕ, _<_}
+use Prim.Native.Nat.{ℕ, _<_, _≤_}
 use lib.Dec.{T, eqb, eqb→eq}
 use types.Run.{OneOf}
-use Rattle.bits.proofs.Every.{both, both-left, both-right, every, every-at}
+use Rattle.bits.proofs.Every.{both, both-left, both-right, every, every-at, by-bound}
 
 -- the value v at each of the keys
 abbrev pub allKeys : (ℕ → ℕ) → ℕ → List ℕ → Bool
@@ -61,3 +61,8 @@ pub last-arm : (f : ℕ → ℕ) (v : ℕ) (kss : List (List ℕ)) (n : ℕ) →
 last-arm f v kss n t x h m =
     ⊎-elim (λ s. absurd (no-some kss x m s)) (eqb→eq v (f x))
     (or-either (isSome kss x) (eqb v (f x)) (every-at (λ x. isSome kss x || eqb v (f x)) n t x h))
+
+-- v at each number that is no key, where it is v from n on
+pub rest-arm : (f : ℕ → ℕ) (v : ℕ) (kss : List (List ℕ)) (n : ℕ) → T (elsewhere f v kss n)
+    → ((x : ℕ) → n ≤ x → v ≡ f x) → (x : ℕ) → NoKey kss x → v ≡ f x
+rest-arm f v kss n t beyond x m = by-bound n x (λ h. last-arm f v kss n t x h m) (beyond x)

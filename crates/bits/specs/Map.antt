@@ -39,10 +39,14 @@ abbrev pub among : List Span → ℕ → ℕ → Bool
 among [] b i = false
 among (s ∷ ss) b i = covers s b i || among ss b i
 
--- what f says of the first row that covers an index of a bank, and `none` where no row does
+-- what f says of the first row that covers an index of a bank, and `none` where no row does. The rows may be of any
+-- type, also one with more columns than `Row`, that tells where each lies
+abbrev pub firstSays : {R A : Type 0} → (R → Span) → (R → A) → A → List R → ℕ → ℕ → A
+firstSays lies f none [] b i = none
+firstSays lies f none (r ∷ rs) b i = choose (covers (lies r) b i) (f r) (firstSays lies f none rs b i)
+
 abbrev pub rowSays : {A : Type 0} → (Row → A) → A → List Row → ℕ → ℕ → A
-rowSays f none [] b i = none
-rowSays f none (r ∷ rs) b i = choose (covers (r .span) b i) (f r) (rowSays f none rs b i)
+rowSays = firstSays (λ r. r .span)
 
 abbrev pub isPresent : List Row → ℕ → ℕ → Bool
 isPresent = rowSays (λ r. true) false

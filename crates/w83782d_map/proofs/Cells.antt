@@ -5,15 +5,14 @@ use mathlib.Core.Bool.{Bool, true, false, not, _&&_, _||_, and-false, Bool·beq}
 use mathlib.Core.List.{List, [], _∷_}
 use mathlib.Core.Logic.{⊎-elim}
 use Prim.Native.Nat.{ℕ, _+_, _-_, _<_, _≤_}
-use native.Mathlib.Decide.{decLt}
 use native.Mathlib.Omega.{arith}
 use borrow.Author.Tests.{ne-eqb, le-ltb, lt-leb, ltb-true, not-true, not-false}
 use lib.Dec.{T, eqb, eqb→eq, ltb, ltb→lt, leb}
 use Rattle.bits.specs.Bits.{bit, inSet}
 use Rattle.bits.specs.Map.{Row, rowSays}
-use Rattle.bits.proofs.Every.{both, both-left, both-right, every-at, beq-same}
+use Rattle.bits.proofs.Every.{both, both-left, both-right, every-at, by-bound, beq-same}
 use Rattle.bits.proofs.ChangeLaws.{and-left}
-use Rattle.bits.proofs.Match.{NoKey, or-either, last-arm}
+use Rattle.bits.proofs.Match.{NoKey, or-either, rest-arm}
 use Rattle.w83782d_map.specs.Map.{at, atBank, bankAt, indexAt, cells, rows}
 use Rattle.w83782d_map.specs.Map.{keptByReset, presentAt, writableAt, powerOnAt, keptAt}
 use Rattle.w83782d_map.specs.Cells.{chassisClear, configuration}
@@ -114,11 +113,7 @@ answer-accepted c r u h e f g k =
 
 -- an accepted write is to a cell
 pub answered-cell : (c : ℕ) → writeAnswer c ≡ 0 → c < cells
-answered-cell c e = go (decLt c cells)
-  where
-    go : Dec (c < cells) → c < cells
-    go (yes h) = h
-    go (no n) = absurd (omega (arith, answer-out c (omega arith)))
+answered-cell c e = by-bound cells c (λ h. h) (λ h. absurd (omega (arith, answer-out c h)))
 
 pub present-cell : (c : ℕ) → presentAt c ≡ true → c < cells
 unfolding presentAt
@@ -159,14 +154,6 @@ beyond-rows f c h =
     simp (le-ltb c 64 (omega arith), le-ltb c 80 (omega arith), le-ltb c 96 (omega arith))
     (no-row f 4 (0x50 + (c - 96)) rows tt (omega arith))
 
--- a cell, or a number beyond them
-by-cells : {A : Type 0} (c : ℕ) → (c < cells → A) → (cells ≤ c → A) → A
-by-cells {A} c inside beyond = go (decLt c cells)
-  where
-    go : Dec (c < cells) → A
-    go (yes h) = inside h
-    go (no k) = beyond (omega arith)
-
 stored-out : (c : ℕ) → cells ≤ c → 0x00 ≡ storedBits c
 unfolding writableAt
 stored-out c h =
@@ -175,7 +162,7 @@ stored-out c h =
 
 pub stored-rest : (c : ℕ) → NoKey storedKeys c → 0x00 ≡ storedBits c
 unfolding writableAt rows
-stored-rest c n = by-cells c (λ h. last-arm storedBits 0x00 storedKeys cells tt c h n) (stored-out c)
+stored-rest c n = rest-arm storedBits 0x00 storedKeys cells tt stored-out c n
 
 -- a write that would store something is accepted, and 46h stores nothing
 storesOrNot : ℕ → Bool
@@ -188,7 +175,7 @@ stores-in c h = every-at storesOrNot cells tt c h
 pub stored-accepted : (c : ℕ) → (storedBits c ≡ 0 → ⊥) → writeAnswer c ≡ 0
 unfolding storesOrNot
 stored-accepted c n =
-    by-cells c
+    by-bound cells c
     (λ h. ⊎-elim (λ s. absurd (n (eqb→eq (storedBits c) 0 s))) (eqb→eq (writeAnswer c) 0)
     (or-either (eqb (storedBits c) 0) (eqb (writeAnswer c) 0) (stores-in c h)))
     (λ h. absurd (n (sym (stored-out c h))))
@@ -208,5 +195,4 @@ powerKeys =
 
 pub power-rest : (c : ℕ) → NoKey powerKeys c → 0 ≡ powerOnAt c
 unfolding powerOnAt rows
-power-rest c n =
-    by-cells c (λ h. last-arm powerOnAt 0 powerKeys cells tt c h n) (λ h. sym (beyond-rows (λ r. r .powerOn) c h))
+power-rest c n = rest-arm powerOnAt 0 powerKeys cells tt (λ k h. sym (beyond-rows (λ r. r .powerOn) k h)) c n

@@ -1,6 +1,6 @@
 -- The register map of the W83L784R (C-16): a row for each row of its table of registers, in its order. Lay the table
 -- beside it: each comment names the row that the lines under it carry. "s." is a section of the data sheet (source
--- 002), K-nn the reading that decided where the data sheet is unclear.
+-- 002), K-nn the reading that decided where the data sheet is unclear (docs/DECISIONS.md).
 use mathlib.Core.Bool.{Bool, true, false}
 use mathlib.Core.List.{List, [], _∷_}
 use Prim.Native.Nat.{ℕ, _+_, _-_, _/_, _%_}

@@ -1,9 +1,12 @@
 // The lines of a report of figures, put into a lent buffer: a line of each reading ("20 3 -1 7 12"), a line of each bit
 // of a register ("41.0 17"), and the last line ("end 12 100000"). Nothing here is of one chip.
+//
+// Each promises besides how far it goes at most (`short`), for a caller who needs room for all of it: a number of 64
+// bits has at most 20 characters, a sign among them, and most stand behind a space.
 ghost use mathlib.Core.Path.{_≡_};
-ghost use Prim.Native.Nat.{_+_};
+ghost use Prim.Native.Nat.{_+_, _*_, _≤_};
 ghost use lib.IntN.{pos};
-ghost use lib.ListN.{getD};
+ghost use lib.ListN.{length, getD};
 ghost use Rattle.figures.specs.Figure.{figure, figureAt};
 ghost use Rattle.text.specs.Text.{Put};
 ghost use Rattle.report_text.specs.Lines.{spacedSigned, extreme, readingLine};
@@ -42,8 +45,9 @@ fn put_figure(
     greatest: i64,
     sum: i64,
 ) -> usize
-    ensures { λ r. ⌜ Put (now (out .entry)) at
+    ensures line { λ r. ⌜ Put (now (out .entry)) at
         (readingLine (now (name .entry)) samples (figure least greatest sum)) (now (out .exit)) r ⌝ }
+    ensures short { λ r. ⌜ r ≤ at + (length (now (name .entry)) + 85) ⌝ }
 {
     let a = put_bytes(out, at, name);
     let b = put_spaced(out, a, samples);
@@ -77,8 +81,9 @@ pub fn put_reading(
     figures: &[i64],
     place: usize,
 ) -> usize
-    ensures { λ r. ⌜ Put (now (out .entry)) at
+    ensures line { λ r. ⌜ Put (now (out .entry)) at
         (readingLine (now (name .entry)) samples (figureAt (now (figures .entry)) place)) (now (out .exit)) r ⌝ }
+    ensures short { λ r. ⌜ r ≤ at + (length (now (name .entry)) + 85) ⌝ }
 {
     let least = number_at(figures, place, 0);
     let greatest = number_at(figures, place, 1);
@@ -88,7 +93,8 @@ pub fn put_reading(
 
 // The line of one bit of a register: both, and the count.
 fn put_count(out: &mut [u8], at: usize, register: &[u8], bit: u64, n: u64) -> usize
-    ensures { λ r. ⌜ Put (now (out .entry)) at (countLine (now (register .entry)) bit n) (now (out .exit)) r ⌝ }
+    ensures line { λ r. ⌜ Put (now (out .entry)) at (countLine (now (register .entry)) bit n) (now (out .exit)) r ⌝ }
+    ensures short { λ r. ⌜ r ≤ at + (length (now (register .entry)) + 43) ⌝ }
 {
     let a = put_bytes(out, at, register);
     let b = put_byte(out, a, b'.');
@@ -99,8 +105,9 @@ fn put_count(out: &mut [u8], at: usize, register: &[u8], bit: u64, n: u64) -> us
 
 // A line for each count of a register's bits; the first is that of bit 0.
 pub fn put_counts(out: &mut [u8], at: usize, register: &[u8], counts: &[u64]) -> usize
-    ensures { λ r. ⌜ Put (now (out .entry)) at
+    ensures lines { λ r. ⌜ Put (now (out .entry)) at
         (countLines (now (register .entry)) (now (counts .entry))) (now (out .exit)) r ⌝ }
+    ensures short { λ r. ⌜ r ≤ at + length (now (counts .entry)) * (length (now (register .entry)) + 43) ⌝ }
 {
     let mut next = at;
     let mut i = 0;
@@ -113,7 +120,8 @@ pub fn put_counts(out: &mut [u8], at: usize, register: &[u8], counts: &[u64]) ->
 
 // The last line: the answer, and how many records were accepted.
 pub fn put_end(out: &mut [u8], at: usize, answer: u8, accepted: u64) -> usize
-    ensures { λ r. ⌜ Put (now (out .entry)) at (endLine answer accepted) (now (out .exit)) r ⌝ }
+    ensures line { λ r. ⌜ Put (now (out .entry)) at (endLine answer accepted) (now (out .exit)) r ⌝ }
+    ensures short { λ r. ⌜ r ≤ at + 46 ⌝ }
 {
     let a = put_bytes(out, at, b"end");
     let b = put_spaced(out, a, answer as u64);

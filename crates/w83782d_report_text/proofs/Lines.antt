@@ -5,7 +5,7 @@ use Prim.Native.Nat.{ℕ, zero, suc, _+_, _*_, _≤_, _<_}
 use native.Mathlib.Omega.{arith}
 use native.Mathlib.Numerals.{add-one}
 use lib.IntN.{ℤ}
-use lib.ListN.{length, getD, take, replicate}
+use lib.ListN.{length, getD, take, replicate, length-take}
 use Rattle.text.specs.Text.{lastPlace, Put, ascii}
 use Rattle.text_hex.specs.Hex.{hexDigit, hexWith, hex}
 use Rattle.text.proofs.Puts.{_then_, put-none}
@@ -72,3 +72,11 @@ module _ (o p q : List ℕ) (at a b : ℕ) where
       → Put o at (reportText (summaryOf x)) s c
   unfolding reportText
   all-lines x s c n e f g h = f then g then rw e at h
+
+-- eight lines and six, of a register's two characters and 43 more at most
+pub both-short : (cs ds : List ℕ) (at a b : ℕ) → length cs ≡ 8 → length ds ≡ 8
+    → a ≤ at + length cs * (length (ascii "41") + 43) → b ≤ a + length (take 6 ds) * (length (ascii "42") + 43)
+    → b ≤ at + 630
+both-short cs ds at a b h k f g =
+    let six : length (take 6 ds) ≡ 6 = simp length-take (omega arith) in
+    omega (arith, rw h at f, rw six at g)

@@ -30,3 +30,7 @@ unfoldable pub reportText : Summary → List ℕ
 reportText r =
     readingLines 13 (r .samples) (r .figures)
     ++ (latchedLines (r .first) (r .second) ++ endLine (r .answer) (r .accepted))
+
+-- so many bytes are room for any report, whatever numbers it has
+abbrev pub longestText : ℕ
+longestText = 1811

@@ -1,18 +1,21 @@
 // The 28 lines of the report of a day, put into a lent buffer: the figures of each
 // reading, how often each bit of 41h and 42h was latched, and the end.
 ghost use mathlib.Core.Path.{_≡_};
-ghost use Prim.Native.Nat.{_+_};
+ghost use Prim.Native.Nat.{_+_, _≤_};
 ghost use lib.ListN.{length};
 ghost use Rattle.text.specs.Text.{Put};
 ghost use Rattle.text_hex.specs.Hex.{hex};
 ghost use Rattle.w83782d_day.specs.Report.{summaryOf};
 ghost use Rattle.w83782d_report.specs.Parts.{viewOf};
-ghost use Rattle.w83782d_report_text.specs.ReportText.{readingLines, latchedLines, reportText};
+ghost use Rattle.w83782d_report_text.specs.ReportText.{readingLines, latchedLines, reportText, longestText};
 use report_text::put_counts;
 use report_text::put_end;
 use report_text::put_reading;
 use text_hex::put_hex;
 use w83782d_report::Report;
+
+// Room for any report: 11 lines of at most 87 characters and two of 89, 14 of 45, and the last of 46.
+pub const LONGEST_TEXT: usize = 1811;
 
 // The readings that have a register of bank 0, from 20h on: the codes, sensor 1 and the counts.
 const IN_BANK_0: usize = 11;
@@ -37,7 +40,9 @@ fn index_name(index: u8) -> [u8; 2]
 }
 
 fn put_registers(out: &mut [u8], at: usize, samples: u64, figures: &[i64]) -> usize
-    ensures { λ r. ⌜ Put (now (out .entry)) at (readingLines 11 samples (now (figures .entry))) (now (out .exit)) r ⌝ }
+    ensures lines { λ r. ⌜ Put (now (out .entry)) at
+        (readingLines 11 samples (now (figures .entry))) (now (out .exit)) r ⌝ }
+    ensures short { λ r. ⌜ r ≤ at + 957 ⌝ }
 {
     let mut next = at;
     let mut i = 0;
@@ -50,7 +55,9 @@ fn put_registers(out: &mut [u8], at: usize, samples: u64, figures: &[i64]) -> us
 }
 
 fn put_readings(out: &mut [u8], at: usize, samples: u64, figures: &[i64]) -> usize
-    ensures { λ r. ⌜ Put (now (out .entry)) at (readingLines 13 samples (now (figures .entry))) (now (out .exit)) r ⌝ }
+    ensures lines { λ r. ⌜ Put (now (out .entry)) at
+        (readingLines 13 samples (now (figures .entry))) (now (out .exit)) r ⌝ }
+    ensures short { λ r. ⌜ r ≤ at + 1135 ⌝ }
 {
     let a = put_registers(out, at, samples, figures);
     let b = put_reading(out, a, b"1.50", samples, figures, SENSOR_2);
@@ -58,9 +65,10 @@ fn put_readings(out: &mut [u8], at: usize, samples: u64, figures: &[i64]) -> usi
 }
 
 fn put_latched(out: &mut [u8], at: usize, first: &[u64], second: &[u64]) -> usize
-    requires { ⌜ length (now second) ≡ 8 ⌝ }
-    ensures { λ r. ⌜ Put (now (out .entry)) at (latchedLines (now (first .entry)) (now (second .entry)))
+    requires { ⌜ (length (now first) ≡ 8) × (length (now second) ≡ 8) ⌝ }
+    ensures lines { λ r. ⌜ Put (now (out .entry)) at (latchedLines (now (first .entry)) (now (second .entry)))
         (now (out .exit)) r ⌝ }
+    ensures short { λ r. ⌜ r ≤ at + 630 ⌝ }
 {
     let next = put_counts(out, at, b"41", first);
     put_counts(out, next, b"42", &second[..BITS_OF_42])
@@ -68,7 +76,8 @@ fn put_latched(out: &mut [u8], at: usize, first: &[u64], second: &[u64]) -> usiz
 
 // The whole report, as if the log ended here.
 pub fn put_report(out: &mut [u8], at: usize, report: Report) -> usize
-    ensures { λ r. ⌜ Put (now (out .entry)) at (reportText (summaryOf (viewOf report))) (now (out .exit)) r ⌝ }
+    ensures text { λ r. ⌜ Put (now (out .entry)) at (reportText (summaryOf (viewOf report))) (now (out .exit)) r ⌝ }
+    ensures short { λ r. ⌜ r ≤ at + longestText ⌝ }
 {
     let figures = report.figures;
     let first = report.first;

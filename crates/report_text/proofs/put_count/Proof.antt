@@ -1,4 +1,6 @@
+use native.Mathlib.Omega.{arith}
 use Rattle.report_text.proofs.Joined.{put-count-line}
+use Rattle.report_text.proofs.Short.{count-short, place-short}
 use borrow.Author.Needs.{needs}
 use Rattle.report_text.proofs.put_count.Statement.{statement}
 use Rattle.report_text.proofs.put_count.Tie as tie
@@ -28,8 +30,11 @@ returns c =
     let bit = count .before .before .before .before in
     let point = bit .before .before .before .before in
     let register = point .before .before .before .before in
+    let start = register .before .before .before .before in
+    let line =
     put-count-line _ _ _ (register .put-bytes .ensures) (point .put-byte .ensures) (bit .put-decimal .ensures)
-    (count .put-spaced .ensures) (last .put-byte2 .ensures)
+    (count .put-spaced .ensures) (last .put-byte2 .ensures) in
+    (line, omega (arith, place-short _ _ _ _ _ _ line (count-short _ _ _ (start .fits .bit) (start .fits .n))))
 
 pub put-count-spec : {M : Type 1} → statement M
 put-count-spec =

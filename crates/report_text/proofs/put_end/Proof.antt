@@ -1,4 +1,8 @@
+use native.Mathlib.Omega.{arith}
+use mir.Syntax.{w64}
+use mir.Val.{Fits}
 use Rattle.report_text.proofs.Joined.{put-end-line}
+use Rattle.report_text.proofs.Short.{end-short, place-short}
 use borrow.Author.Needs.{needs}
 use Rattle.report_text.proofs.put_end.Statement.{statement}
 use Rattle.report_text.proofs.put_end.Tie as tie
@@ -27,8 +31,12 @@ returns c =
     let accepted = last .before .before .before .before in
     let answer = accepted .before .before .before .before in
     let word = answer .before .before .before .before in
+    let start = word .before .before .before .before in
+    let line =
     put-end-line _ _ (word .put-bytes .ensures) (answer .put-spaced .ensures) (accepted .put-spaced2 .ensures)
-    (last .put-byte .ensures)
+    (last .put-byte .ensures) in
+    let wide : Fits w64 (start .args .answer) = search needs in
+    (line, omega (arith, place-short _ _ _ _ _ _ line (end-short _ _ wide (start .fits .accepted))))
 
 pub put-end-spec : {M : Type 1} → statement M
 put-end-spec =

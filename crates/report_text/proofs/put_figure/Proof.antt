@@ -1,6 +1,8 @@
 -- Each put goes on where the one before it ended, so the six together are the line.
 -- Assumes nothing.
+use native.Mathlib.Omega.{arith}
 use Rattle.report_text.proofs.Joined.{put-reading-line}
+use Rattle.report_text.proofs.Short.{reading-short, place-short}
 use borrow.Author.Needs.{needs}
 use Rattle.report_text.proofs.put_figure.Statement.{statement}
 use Rattle.report_text.proofs.put_figure.Tie as tie
@@ -35,9 +37,14 @@ returns c =
     let samples = least .before .before .before .before in
     let name = samples .before .before .before .before in
     let start = name .before .before .before .before in
+    let line =
     put-reading-line _ (start .fits .least) (start .fits .greatest) (start .fits .sum) (name .put-bytes .ensures)
     (samples .put-spaced .ensures) (least .put-extreme .ensures) (greatest .put-extreme2 .ensures)
-    (sum .put-signed-number .ensures) (last .put-byte .ensures)
+    (sum .put-signed-number .ensures) (last .put-byte .ensures) in
+    let fits = start .fits in
+    let short = reading-short _ _ _ _ _ (fits .samples) (fits .least) (fits .greatest) (fits .sum) in
+    let far = place-short _ _ _ _ _ _ line short in
+    (line, omega arith)
 
 pub put-figure-spec : {M : Type 1} → statement M
 put-figure-spec =

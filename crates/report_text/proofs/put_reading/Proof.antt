@@ -30,8 +30,10 @@ returns c =
     let least = first .number-at in
     let greatest = second .number-at2 in
     let sum = third .number-at3 in
+    let is-line =
     put-figure-at _ _ (args .figures .now) (args .place) (least .result) (greatest .result) (sum .result) (search needs)
-    (search needs) (search needs) (least .ensures) (greatest .ensures) (sum .ensures) (line .put-figure .ensures)
+    (search needs) (search needs) (least .ensures) (greatest .ensures) (sum .ensures) (line .put-figure .ensures .0) in
+    (is-line, search needs)
 
 pub put-reading-spec : {M : Type 1} → statement M
 put-reading-spec =

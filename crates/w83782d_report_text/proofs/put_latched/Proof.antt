@@ -1,6 +1,6 @@
 use native.Mathlib.Omega.{arith}
 use lib.ListN.{length-take}
-use Rattle.w83782d_report_text.proofs.Lines.{both-bytes}
+use Rattle.w83782d_report_text.proofs.Lines.{both-bytes, both-short}
 use borrow.Author.Needs.{needs}
 use Rattle.w83782d_report_text.proofs.put_latched.Statement.{statement}
 use Rattle.w83782d_report_text.proofs.put_latched.Tie as tie
@@ -24,7 +24,7 @@ same-length : tie.Need-same-length
 same-length c = search needs
 
 returns : tie.Need-returns
-returns c = search (needs, both-bytes)
+returns c = (search (needs, both-bytes), search (needs, both-short))
 
 pub put-latched-spec : {M : Type 1} → statement M
 put-latched-spec =

@@ -1,6 +1,7 @@
--- The loop's invariant: the lines of the first i readings are put. The measure is how many are left.
+-- The loop's invariant: the lines of the first i readings are put, of 87 characters at most each.
+-- The measure is how many are left.
 -- Assumes nothing.
-use Prim.Native.Nat.{_≤_, _-_}
+use Prim.Native.Nat.{_+_, _-_, _*_, _≤_}
 use native.Mathlib.Omega.{arith}
 use Rattle.text.proofs.Puts.{put-length}
 use Rattle.text.specs.Text.{Put}
@@ -11,13 +12,14 @@ use Rattle.w83782d_report_text.proofs.put_registers.Statement.{statemen
 use Rattle.w83782d_report_text.proofs.put_registers.Tie as tie
 
 abbrev Inv-loop : tie.InvT-loop
-Inv-loop out₀ at samples figures next₀ i₀ out next i = (i ≤ 11) × Put out₀ at (readingLines i samples figures) out next
+Inv-loop out₀ at samples figures next₀ i₀ out next i =
+    (i ≤ 11) × Put out₀ at (readingLines i samples figures) out next × (next ≤ at + i * 87)
 
 abbrev μ-loop : tie.MeasureT-loop
 μ-loop out₀ at samples figures next₀ i₀ out next i = 11 - i
 
 loop-holds : tie.Need-loop-holds Inv-loop μ-loop
-loop-holds c = (omega arith, no-line _ _ _ _ (omega arith) (omega arith))
+loop-holds c = (omega arith, no-line _ _ _ _ (omega arith) (omega arith), omega arith)
 
 cast-index-name : tie.Need-cast-index-name Inv-loop μ-loop
 cast-index-name c = search needs
@@ -44,13 +46,13 @@ loop-less : tie.Need-loop-less Inv-loop μ-loop
 loop-less c = search needs
 
 loop-again : tie.Need-loop-again Inv-loop μ-loop
-loop-again c = (search needs, search (needs, one-line))
+loop-again c = (search needs, search (needs, one-line), search needs)
 
 same-length : tie.Need-same-length Inv-loop μ-loop
 same-length c = put-length _ _ _ _ _ (c .before .loop .inv .1)
 
 returns : tie.Need-returns Inv-loop μ-loop
-returns c = search (needs, eleven-lines)
+returns c = (search (needs, eleven-lines), search needs)
 
 pub put-registers-spec : {M : Type 1} → statement M
 put-registers-spec =

@@ -63,6 +63,9 @@
 /* Image, codes or output buffer of another length than the call needs. It comes
  * before every other refusal. A record of another length is W83782D_BAD_RECORD. */
 #define W83782D_BAD_LENGTH 8
+/* A whole record after the 100,000 of a day's report. No call here answers it: it is
+ * in the last line of the report of a log, which the program day_report prints. */
+#define W83782D_DAY_FULL 12
 
 /* ---- Parts of a returned word ---- */
 

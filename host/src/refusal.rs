@@ -35,10 +35,14 @@ pub enum Refusal {
     NoChannel = 7,
     /// Buffer of another length than the call needs.
     BadLength = 8,
+    /// A whole record after the 100,000 of a day's report. No call of this crate
+    /// answers it: it is in the last line of the report of a log, which the program
+    /// `day_report` prints.
+    DayFull = 12,
 }
 
 impl Refusal {
-    /// The answer number, 1 to 8.
+    /// The answer number, 1 to 8 or 12.
     #[must_use]
     pub const fn number(self) -> u8 {
         self as u8
@@ -58,6 +62,7 @@ impl Refusal {
             6 => Refusal::BadSpeed,
             7 => Refusal::NoChannel,
             8 => Refusal::BadLength,
+            12 => Refusal::DayFull,
             _ => panic!("answer {number} of libw83782d_c.a is unknown to this crate"),
         }
     }
@@ -74,6 +79,7 @@ impl Display for Refusal {
             Refusal::BadSpeed => "speed out of range",
             Refusal::NoChannel => "no such fan, sensor, channel or resistor",
             Refusal::BadLength => "buffer of the wrong length",
+            Refusal::DayFull => "more records than a day holds",
         })
     }
 }

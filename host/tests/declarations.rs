@@ -173,6 +173,7 @@ fn the_header_and_the_wrapper_number_answers_as_the_paper_does() {
         (6, "BAD_SPEED", Refusal::BadSpeed),
         (7, "NO_CHANNEL", Refusal::NoChannel),
         (8, "BAD_LENGTH", Refusal::BadLength),
+        (12, "DAY_FULL", Refusal::DayFull),
     ] {
         assert!(defined(name, number), "{name}");
         assert_eq!(refusal.number(), number, "{refusal}");

@@ -15,6 +15,8 @@ pub struct Row {
     pub second: &'static str,
     /// Ratio to stay within, where it says something.
     pub goal: Option<f64>,
+    /// A row whose library call it is held to besides, and the ratio of their times.
+    pub own: Option<(&'static str, f64)>,
     /// Calls of one pass; records, where a call is a whole log.
     pub calls: u64,
     /// Holds answers and states of both programs to each other.
@@ -28,6 +30,7 @@ pub struct About {
     pub name: &'static str,
     pub second: &'static str,
     pub goal: Option<f64>,
+    pub own: Option<(&'static str, f64)>,
     /// No call of it may be refused: a refusal would be measured in its place.
     pub all_accepted: bool,
     /// What one input counts for in a pass.
@@ -63,6 +66,7 @@ where
         name: about.name,
         second: about.second,
         goal: about.goal,
+        own: about.own,
         calls: inputs as u64 * about.weight,
         check: {
             let (runs, library, second) = (runs.clone(), library.clone(), second.clone());
@@ -122,27 +126,44 @@ fn hold<S: State, T: State, I: Debug, A: Answer, B: Answer>(
     }
 }
 
-/// A state of either program, seen as the second program's.
+/// What calls change, as either program keeps it.
 pub trait State: Clone {
-    fn seen(&self) -> Option<Monitor>;
+    fn seen(&self) -> Seen;
+}
+
+/// The same of both programs.
+#[derive(Debug, PartialEq)]
+pub enum Seen {
+    Monitor(Monitor),
+    Text(Vec<u8>),
+    Nothing,
 }
 
 impl State for Image {
-    fn seen(&self) -> Option<Monitor> {
-        Some(state_in(self))
+    fn seen(&self) -> Seen {
+        Seen::Monitor(state_in(self))
     }
 }
 
 impl State for Monitor {
-    fn seen(&self) -> Option<Monitor> {
-        Some(*self)
+    fn seen(&self) -> Seen {
+        Seen::Monitor(*self)
     }
 }
 
+/// A report's lines, in a buffer that a call is lent.
+impl State for Text {
+    fn seen(&self) -> Seen {
+        Seen::Text(self.to_vec())
+    }
+}
+
+pub type Text = [u8; 4096];
+
 /// Decoding and planning need no monitor.
 impl State for () {
-    fn seen(&self) -> Option<Monitor> {
-        None
+    fn seen(&self) -> Seen {
+        Seen::Nothing
     }
 }
 
@@ -190,6 +211,13 @@ impl Answer for Option<Plan> {
             Some(plan) => (0, 1 << (8 + plan.k) | u64::from(plan.limit)),
             None => (6, 0),
         }
+    }
+}
+
+/// How long a text is.
+impl Answer for usize {
+    fn parts(&self) -> (u8, u64) {
+        (0, *self as u64)
     }
 }
 

@@ -1,5 +1,5 @@
-//! Instructions of a call, by callgrind: it counts inside one function only and
-//! writes what it counted each time that function is left.
+//! Instructions, by callgrind. Of a call: it counts inside one function only and writes
+//! what it counted each time that function is left. Of a program: it counts all of it.
 
 use crate::calls::Row;
 use crate::folder::Folder;
@@ -8,7 +8,7 @@ use std::fs;
 use std::hint::black_box;
 use std::io::{Error, ErrorKind};
 use std::path::{Path, PathBuf};
-use std::process::Command;
+use std::process::{Command, Stdio};
 
 /// The function that callgrind counts in.
 const COUNTED: &str = "w83782d_bench_counted";
@@ -49,10 +49,7 @@ pub fn under_callgrind(rows: usize) -> Option<Vec<[u64; 2]>> {
 }
 
 fn counted_in(folder: &Path, rows: usize) -> Result<Vec<[u64; 2]>, Error> {
-    let out = folder.join("out");
-    let run = Command::new("valgrind")
-        .arg("--tool=callgrind")
-        .arg(format!("--callgrind-out-file={}", out.display()))
+    let run = callgrind(folder)
         .arg(format!("--toggle-collect={COUNTED}"))
         .arg(format!("--dump-after={COUNTED}"))
         .arg(env::current_exe()?)
@@ -63,10 +60,40 @@ fn counted_in(folder: &Path, rows: usize) -> Result<Vec<[u64; 2]>, Error> {
         return Err(Error::other(said));
     }
     // Files are numbered from 1, in the order of the passes.
-    let file = |n: usize| folder.join(format!("out.{n}"));
+    let file = |n: usize| folder.join(format!("{OUT}.{n}"));
     (0..rows)
         .map(|row| Ok([total(file(2 * row + 1))?, total(file(2 * row + 2))?]))
         .collect()
+}
+
+// ---- Of a program
+
+/// A command that runs a program under callgrind; its arguments are still to be given.
+pub fn counting(program: &Path, folder: &Path) -> Command {
+    let mut command = callgrind(folder);
+    command.arg(program).stderr(Stdio::null());
+    command
+}
+
+/// Runs it to its end; nothing where there is no valgrind.
+pub fn counted(counting: &mut Command, folder: &Path) -> Option<u64> {
+    let status = counting.status().ok()?;
+    assert!(status.success(), "{counting:?}: {status}");
+    total(folder.join(OUT)).ok()
+}
+
+// ---- What callgrind writes
+
+/// The file that it writes, in a folder.
+const OUT: &str = "callgrind.out";
+
+fn callgrind(folder: &Path) -> Command {
+    let mut command = Command::new("valgrind");
+    let out = folder.join(OUT);
+    command
+        .arg("--tool=callgrind")
+        .arg(format!("--callgrind-out-file={}", out.display()));
+    command
 }
 
 /// The line "totals: N" of one of callgrind's files.

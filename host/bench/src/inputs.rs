@@ -264,9 +264,25 @@ pub fn usual_log(size: Size, rng: &mut Rng) -> (Monitor, Vec<Record>) {
     (start, log.records)
 }
 
-/// A cabinet's day for a program, which starts from power-on: what sets the cabinet
-/// up comes first.
-pub fn usual_day(size: Size, rng: &mut Rng) -> Vec<Record> {
+/// Days of which a replay and a report are measured, all of them accepted from power-on.
+pub struct Days {
+    pub usual: Vec<Record>,
+    pub any: Vec<Record>,
+}
+
+pub fn days(size: Size) -> Days {
+    let mut rng = Rng::new(2);
+    let usual = usual_day(size, &mut rng);
+    let any = any_log(size, &mut rng).1;
+    for day in [&usual, &any] {
+        let answer = Monitor::power_on().replay(day.as_flattened());
+        assert_eq!(answer, (0, size.records as u64));
+    }
+    Days { usual, any }
+}
+
+/// A cabinet's day from power-on: what sets the cabinet up comes first.
+fn usual_day(size: Size, rng: &mut Rng) -> Vec<Record> {
     let (start, records) = usual_log(size, rng);
     let mut day = set_up(&start);
     day.extend(records);

@@ -2,24 +2,26 @@
 //! lines by the second program: whole processes on the same input.
 
 use crate::common::rng::Rng;
+use crate::count;
 use crate::folder::Folder;
 use crate::inputs::{self, Record, Size};
 use crate::process;
 use crate::time::Times;
-use reference::w83782d::Monitor;
 use std::fs::{self, File};
 use std::path::{Path, PathBuf};
 use std::process::{Command, Stdio};
 
-/// Goal for the replay of a day.
+/// Goals for the replay of a day and for its report.
 const REPLAY: f64 = 1.5;
+const REPORT: f64 = 1.25;
 
 const SPEEDS: usize = 2_000;
 
 /// Rounds of each program, by turns.
 const ROUNDS: usize = 9;
 
-/// Runs for its memory, of which the largest is told.
+/// Runs for its memory, of which the largest is told: a program that prints at its end
+/// alone may be gone before it is looked at.
 const LOOKS: usize = 5;
 
 /// A row of the table: a program and what it is given.
@@ -27,7 +29,7 @@ pub struct Job {
     pub name: &'static str,
     /// What the second program does for it.
     pub second: &'static str,
-    /// Ratio of times to stay within, where there is one.
+    /// Ratio to stay within, where there is one.
     pub goal: Option<f64>,
     program: &'static str,
     arguments: Vec<String>,
@@ -38,41 +40,52 @@ pub struct Job {
 pub struct Cost {
     /// Milliseconds.
     pub times: [Times; 2],
+    /// Nothing where there is no valgrind.
+    pub instructions: Option<[u64; 2]>,
     /// KiB.
     pub memory: [u64; 2],
 }
 
 pub fn jobs(size: Size) -> Vec<Job> {
-    let mut rng = Rng::new(2);
-    let rng = &mut rng;
+    let days = inputs::days(size);
+    let mut rng = Rng::new(3);
     vec![
-        replay("replay, usual day", inputs::usual_day(size, rng)),
-        replay("replay, any day", inputs::any_log(size, rng).1),
+        replay("replay, usual day", &days.usual),
+        replay("replay, any day", &days.any),
+        report("report, usual day", &days.usual),
+        report("report, any day", &days.any),
         Job {
             name: "plan, 2,000 speeds",
             second: "the same lines by host/programs, buffered: Plan::of",
             goal: None,
             program: "plan",
             arguments: (0..SPEEDS)
-                .map(|_| inputs::usual_speed(rng).to_string())
+                .map(|_| inputs::usual_speed(&mut rng).to_string())
                 .collect(),
             input: Vec::new(),
         },
     ]
 }
 
-/// A day from power-on, all of it accepted.
-fn replay(name: &'static str, day: Vec<Record>) -> Job {
-    let log = day.as_flattened();
-    let records = day.len() as u64;
-    assert_eq!(Monitor::power_on().replay(log), (0, records), "{name}");
+fn replay(name: &'static str, day: &[Record]) -> Job {
     Job {
         name,
         second: "the same lines by host/programs, buffered: decode, Monitor::apply, outputs",
         goal: Some(REPLAY),
         program: "replay",
         arguments: Vec::new(),
-        input: log.into(),
+        input: day.as_flattened().into(),
+    }
+}
+
+fn report(name: &'static str, day: &[Record]) -> Job {
+    Job {
+        name,
+        second: "the same lines by host/programs: Report",
+        goal: Some(REPORT),
+        program: "day_report",
+        arguments: Vec::new(),
+        input: day.as_flattened().into(),
     }
 }
 
@@ -105,8 +118,14 @@ impl Job {
             let looks = (0..LOOKS).map(|_| process::memory(&mut silent(program)));
             looks.max().expect("it was run")
         };
+        let [built, second] = programs.each_ref().map(|program| {
+            let mut counting = count::counting(program, folder);
+            self.give(&mut counting, &input, Stdio::null());
+            count::counted(&mut counting, folder)
+        });
         Cost {
             times: rounds.map(Times::of),
+            instructions: built.zip(second).map(|(built, second)| [built, second]),
             memory: programs.each_ref().map(memory),
         }
     }
@@ -120,11 +139,15 @@ impl Job {
 
     fn command(&self, program: &Path, input: &Path, output: Stdio) -> Command {
         let mut command = Command::new(program);
+        self.give(&mut command, input, output);
+        command
+    }
+
+    fn give(&self, command: &mut Command, input: &Path, output: Stdio) {
         command
             .args(&self.arguments)
             .stdin(File::open(input).expect("the input was written"))
             .stdout(output);
-        command
     }
 
     /// The same bytes from both.

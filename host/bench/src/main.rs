@@ -32,6 +32,7 @@ use jobs::jobs;
 use rows::rows;
 use std::env;
 use std::process::ExitCode;
+use table::Calls;
 
 fn main() -> ExitCode {
     let mut arguments = env::args().skip(1);
@@ -56,9 +57,11 @@ fn measure_calls() {
     for row in &rows {
         (row.check)();
     }
-    let instructions = count::under_callgrind(rows.len());
-    let times: Vec<_> = rows.iter().map(time::both).collect();
-    table::print(&rows, &times, &instructions);
+    table::print(&Calls {
+        instructions: count::under_callgrind(rows.len()),
+        times: rows.iter().map(time::both).collect(),
+        rows,
+    });
 }
 
 fn measure_programs() {
@@ -76,5 +79,5 @@ fn both_programs_agree_on_what_is_measured() {
 /// What both programs print is compared in host/programs, on many logs.
 #[test]
 fn days_for_programs_are_accepted_from_power_on() {
-    assert_eq!(jobs(Size::SMALL).len(), 3);
+    assert_eq!(jobs(Size::SMALL).len(), 5);
 }

@@ -4,21 +4,24 @@
 //! can't see through, so that neither is inlined into the loop or freed of work
 //! that its caller doesn't use.
 
-use crate::calls::{row, About, Row, Run};
+use crate::calls::{row, About, Row, Run, Text};
 use crate::common::rng::Rng;
 use crate::image::Image;
 use crate::inputs::{self, Part, Record, Size};
 use crate::raw;
 use programs::direct_plan;
-use reference::w83782d::{cell, decode, Event, Monitor, Sample};
+use reference::w83782d::{cell, decode, Event, Monitor, Report, Sample};
 use reference::Plan;
 use std::hint::black_box;
 use std::rc::Rc;
 use w83782d::IMAGE_SIZE;
 
-/// Goals for a single call through the image and for a replay.
+/// Goals for a single call through the image, for a replay and for a report.
 const CALL: f64 = 2.0;
 const REPLAY: f64 = 1.25;
+const REPORT: f64 = 1.25;
+/// Goal for a report beside the library's own replay of the same log.
+const OWN_REPLAY: f64 = 1.15;
 
 pub fn rows(size: Size) -> Vec<Row> {
     let mut rng = Rng::new(1);
@@ -27,6 +30,7 @@ pub fn rows(size: Size) -> Vec<Row> {
     let any = inputs::any_states(size, rng);
     let (day_start, day) = inputs::usual_log(size, rng);
     let (any_start, any_day) = inputs::any_log(size, rng);
+    let days = inputs::days(size);
     let part = (size.starts * size.calls) as usize;
     let (some, any_some) = (&day[..part.min(day.len())], &any_day[..part.min(day.len())]);
 
@@ -94,8 +98,10 @@ pub fn rows(size: Size) -> Vec<Row> {
             (0..part).map(|_| inputs::any_number(rng)).collect(),
         ),
         plan_by_search((0..part).map(|_| inputs::usual_speed(rng)).collect()),
-        replay("replay, usual day", day_start, day),
-        replay("replay, any day", any_start, any_day),
+        replay("replay, usual day", &days.usual),
+        replay("replay, any day", &days.any),
+        report("report, usual day", "replay, usual day", &days.usual),
+        report("report, any day", "replay, any day", &days.any),
     ]
 }
 
@@ -149,6 +155,7 @@ impl Mix {
             name,
             second,
             goal: Some(CALL),
+            own: None,
             all_accepted,
             weight: 1,
         }
@@ -326,8 +333,8 @@ fn event(mix: Mix, runs: Vec<MonitorRun<Part>>) -> Row {
     )
 }
 
-/// A day's log in one call.
-fn replay(name: &'static str, start: Monitor, records: Vec<Record>) -> Row {
+/// A day's log from power-on, in one call.
+fn replay(name: &'static str, records: &[Record]) -> Row {
     type Library = unsafe extern "C" fn(*mut u8, usize, *const u8, usize) -> u64;
     let library = black_box(raw::w83782d_replay as Library);
     let second = black_box(Monitor::replay as fn(&mut Monitor, &[u8]) -> (u8, u64));
@@ -339,11 +346,59 @@ fn replay(name: &'static str, start: Monitor, records: Vec<Record>) -> Row {
     let log: Rc<[u8]> = records.as_flattened().into();
     row(
         about,
-        vec![run(start, vec![log])],
+        vec![run(Monitor::power_on(), vec![log])],
         // SAFETY: each pointer and the length after it are those of a slice.
         move |image, log| unsafe {
             library(image.as_mut_ptr(), IMAGE_SIZE, log.as_ptr(), log.len())
         },
         move |monitor, log| second(monitor, log),
+    )
+}
+
+// ---- Reports
+
+extern "C" {
+    /// From crates/w83782d_report_c: no header has it.
+    fn w83782d_report(log: *const u8, length: usize, text: *mut u8, room: usize) -> usize;
+}
+
+/// The second program's report of a whole log, as text.
+fn report_of(log: &[u8], text: &mut [u8]) -> usize {
+    let room = text.len();
+    let mut rest = text;
+    let mut report = Report::new();
+    report.feed(log);
+    report
+        .write(&mut rest)
+        .expect("there is room for its lines");
+    room - rest.len()
+}
+
+/// A day's log from power-on, in one call.
+fn report(name: &'static str, replay: &'static str, records: &[Record]) -> Row {
+    type Library = unsafe extern "C" fn(*const u8, usize, *mut u8, usize) -> usize;
+    let library = black_box(w83782d_report as Library);
+    let second = black_box(report_of as fn(&[u8], &mut [u8]) -> usize);
+    let about = About {
+        goal: Some(REPORT),
+        own: Some((replay, OWN_REPLAY)),
+        weight: records.len() as u64,
+        ..Mix::Usual(name).about("Report, fed with the whole log")
+    };
+    let text: Text = [0; 4096];
+    let log: Rc<[u8]> = records.as_flattened().into();
+    let run = Run {
+        library: text,
+        second: text,
+        inputs: vec![log].into(),
+    };
+    row(
+        about,
+        vec![run],
+        // SAFETY: each pointer and the length after it are those of a slice.
+        move |text: &mut Text, log| unsafe {
+            library(log.as_ptr(), log.len(), text.as_mut_ptr(), text.len())
+        },
+        move |text: &mut Text, log| second(log, text),
     )
 }

@@ -1,8 +1,7 @@
-//! What the programs `replay` and `plan` print, and the report of a day's log, by the
-//! second program.
+//! What the programs `replay`, `day_report` and `plan` print, by the second program.
 //!
 //! The lines are written here once, to any writer: the tests expect them of the
-//! built programs, and the programs `replay`, `plan` and `day_report` of this package
+//! built programs, and the programs `replay`, `day_report` and `plan` of this package
 //! print them, for `./bench` to measure the built ones against. The form of the lines is
 //! README's and that of the built programs' own heads; that of the report is request
 //! C-11's, in the second program.

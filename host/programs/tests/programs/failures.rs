@@ -62,6 +62,23 @@ fn replay_tells_that_its_log_was_not_read() {
     hold_text(&found.stderr, told, "errors");
 }
 
+/// What it has read so far is no report.
+#[test]
+fn day_report_tells_that_its_log_was_not_read() {
+    let folder = File::open(top()).expect("the folder is opened");
+    let found = run(built("day_report").stdin(folder));
+    hold_text(&found.stdout, b"", "output");
+    let told = b"day_report: standard input: Is a directory\n";
+    hold_text(&found.stderr, told, "errors");
+}
+
+#[test]
+fn day_report_tells_that_its_lines_were_not_written() {
+    let found = run(built("day_report").stdin(bundled_day()).stdout(full()));
+    let told = b"day_report: standard output: No space left on device\n";
+    hold_text(&found.stderr, told, "errors");
+}
+
 /// The lines of what was written before are whole, and in their order.
 #[test]
 fn plan_keeps_its_order_on_one_stream() {

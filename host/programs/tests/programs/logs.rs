@@ -2,6 +2,7 @@
 
 use crate::common::rng::Rng;
 use crate::common::{any_event, any_sample, record};
+use programs::PART;
 use reference::w83782d::{Event, Monitor, Sample, RECORD_LENGTH};
 
 /// Registers with a rule of their own, and those that say what a sample does.
@@ -125,4 +126,48 @@ fn out_of_range(sample: &Sample, rng: &mut Rng) -> [u8; RECORD_LENGTH] {
 /// Any records at all; most logs end early.
 pub fn any_log(records: u64, rng: &mut Rng) -> Vec<u8> {
     (0..records).flat_map(|_| any_record(rng)).collect()
+}
+
+/// A log with a record that is refused, with each answer by turns, and good records
+/// behind it.
+pub fn refused_log(seed: u64) -> Vec<u8> {
+    let mut rng = Rng::new(seed);
+    let answer = 1 + (seed % 5) as u8;
+    let mut log = Log::accepted(rng.below(30) as usize, &mut rng);
+    log.add_refused(answer, &mut rng);
+    log.grow(rng.below(3) as usize, &mut rng);
+    assert_eq!(Monitor::power_on().replay(&log.bytes).0, answer);
+    log.bytes
+}
+
+/// The records in what is read at a time.
+pub const PART_RECORDS: usize = PART / RECORD_LENGTH;
+
+/// Lengths about that of a part, and of two.
+pub const ABOUT_A_PART: [usize; 12] = [
+    PART - 33,
+    PART - RECORD_LENGTH,
+    PART - 1,
+    PART,
+    PART + 1,
+    PART + 31,
+    PART + RECORD_LENGTH,
+    PART + 33,
+    2 * PART - 1,
+    2 * PART,
+    2 * PART + 1,
+    2 * PART + RECORD_LENGTH,
+];
+
+/// A log in which the record of this number, from 0, is the first to be refused, with
+/// this answer, 1 to 5; good ones are behind it, as many as a part has.
+pub fn refused_at(place: usize, answer: u8, rng: &mut Rng) -> Vec<u8> {
+    // Answer 4 takes two records, of which the second is refused.
+    let before = place - usize::from(answer == 4);
+    let mut log = Log::accepted(before, rng);
+    log.add_refused(answer, rng);
+    log.grow(PART_RECORDS, rng);
+    let found = Monitor::power_on().replay(&log.bytes);
+    assert_eq!(found, (answer, place as u64));
+    log.bytes
 }

@@ -1,5 +1,5 @@
-//! The built programs `replay` and `plan` against the second program, and the commands
-//! at the top of the repository.
+//! The built programs `replay`, `plan` and `day_report` against the second program, and
+//! the commands at the top of the repository.
 //!
 //! Each program is run on many inputs, and every line that it prints is held to a line
 //! that this package's library makes from what `reference` gives.
@@ -13,4 +13,5 @@ mod logs;
 mod plan;
 mod program;
 mod replay;
+mod report;
 mod second;

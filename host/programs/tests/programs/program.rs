@@ -34,43 +34,58 @@ pub fn plan<S: AsRef<OsStr>>(arguments: &[S]) -> Output {
     command.output().expect("plan runs")
 }
 
-/// How a log reaches `replay`.
+/// How a log reaches a program.
 #[derive(Clone, Copy, Debug)]
 pub enum Feed<'a> {
     /// From a file: each read gives as much as it asks for.
     File,
     /// Through a pipe, in pieces of these lengths by turns.
     Pieces(&'a [usize]),
-    /// So too, and with a pause after each piece, so that reads come back short.
+    /// So too, each piece once the program has taken those before and waits for more, so
+    /// that reads come back short.
     SlowPieces(&'a [usize]),
 }
 
-/// Runs `replay` on a log.
-pub fn replay(log: &[u8], feed: Feed) -> Output {
-    match feed {
-        Feed::File => replay_file(log),
-        Feed::Pieces(lengths) => replay_pieces(log, lengths, None),
-        Feed::SlowPieces(lengths) => replay_pieces(log, lengths, Some(Duration::from_micros(100))),
+impl Feed<'_> {
+    pub const PIPE: Feed<'static> = Feed::Pieces(&[usize::MAX]);
+
+    /// As a file and through a pipe by turns.
+    pub fn by_turns(seed: u64) -> Feed<'static> {
+        match seed % 2 {
+            0 => Feed::File,
+            _ => Feed::PIPE,
+        }
     }
 }
 
-fn replay_file(log: &[u8]) -> Output {
+/// Runs a program on a log.
+pub fn fed(program: &str, log: &[u8], feed: Feed) -> Output {
+    match feed {
+        Feed::File => fed_file(program, log),
+        Feed::Pieces(lengths) => fed_pieces(program, log, lengths, |_| ()),
+        Feed::SlowPieces(lengths) => fed_pieces(program, log, lengths, wait_until_it_waits),
+    }
+}
+
+fn fed_file(program: &str, log: &[u8]) -> Output {
     static FILES: AtomicUsize = AtomicUsize::new(0);
     let n = FILES.fetch_add(1, Ordering::Relaxed);
     let path = Path::new(env!("CARGO_TARGET_TMPDIR")).join(format!("{n}.log"));
     fs::write(&path, log).expect("the log is written");
     let file = File::open(&path).expect("the log is opened");
-    let output = built("replay").stdin(file).output().expect("replay runs");
+    let output = built(program).stdin(file).output();
     fs::remove_file(&path).expect("the log is removed");
-    output
+    output.expect("the program runs")
 }
 
-fn replay_pieces(log: &[u8], lengths: &[usize], pause: Option<Duration>) -> Output {
-    let mut child = built("replay")
+/// Through a pipe, with a pause before each piece for the process of this number.
+fn fed_pieces(program: &str, log: &[u8], lengths: &[usize], pause: fn(u32)) -> Output {
+    let mut child = built(program)
         .stdin(Stdio::piped())
         .spawn()
-        .expect("replay runs");
+        .expect("the program runs");
     let mut input = child.stdin.take().expect("its input is a pipe");
+    let process = child.id();
     thread::scope(|scope| {
         scope.spawn(move || {
             let mut rest = log;
@@ -78,6 +93,7 @@ fn replay_pieces(log: &[u8], lengths: &[usize], pause: Option<Duration>) -> Outp
                 if rest.is_empty() {
                     break;
                 }
+                pause(process);
                 let (piece, more) = rest.split_at(rest.len().min(*length));
                 match input.write_all(piece) {
                     // Behind a refused record nothing more is read.
@@ -85,11 +101,21 @@ fn replay_pieces(log: &[u8], lengths: &[usize], pause: Option<Duration>) -> Outp
                     written => written.expect("the pipe takes a piece"),
                 }
                 rest = more;
-                pause.into_iter().for_each(thread::sleep);
             }
         });
-        child.wait_with_output().expect("replay ends")
+        child.wait_with_output().expect("the program ends")
     })
+}
+
+/// Waits while a process is at work. One that has started and reads a pipe works until
+/// it finds that empty, and sleeps then.
+fn wait_until_it_waits(process: u32) {
+    // Linux tells it, after the name: "N (name) S ..". S is asleep, Z has ended.
+    let stat = format!("/proc/{process}/stat");
+    let works = |stat: String| !stat.contains(") S ") && !stat.contains(") Z ");
+    while fs::read_to_string(&stat).is_ok_and(works) {
+        thread::sleep(Duration::from_micros(20));
+    }
 }
 
 /// Holds what a program printed, on standard output or error, to what is expected;
@@ -100,8 +126,8 @@ pub fn hold_text(found: &[u8], expected: &[u8], origin: &str) {
     }
 }
 
-/// The first line that differs. A line's number is that of the record that `replay`
-/// tells in it, unless it is the end.
+/// The first line that differs. Of `replay` a line's number is that of the record that
+/// it tells, unless it is the end.
 fn first_difference(found: &[u8], expected: &[u8]) -> Option<String> {
     // Line ends stay, so that one too few is a difference too.
     let [mut found, mut expected] = [found, expected].map(|text| text.split_inclusive(is_end));

@@ -2,16 +2,11 @@
 
 use crate::common::record;
 use crate::common::rng::Rng;
-use crate::logs::{any_log, Log};
-use crate::program::{hold_text, replay, top, Feed};
+use crate::logs::{any_log, refused_at, refused_log, Log, ABOUT_A_PART, PART_RECORDS};
+use crate::program::{fed, hold_text, top, Feed};
 use programs::PART;
 use reference::w83782d::{Event, Monitor, RECORD_LENGTH};
 use std::fs;
-
-/// The records in what is read at a time.
-const PART_RECORDS: usize = PART / RECORD_LENGTH;
-
-const PIPE: Feed = Feed::Pieces(&[usize::MAX]);
 
 /// What `replay` should print for a log. Its end is that of the second program's own
 /// replay.
@@ -28,18 +23,10 @@ pub fn lines(log: &[u8]) -> String {
 /// Holds all that `replay` prints for a log to the second program.
 fn hold(log: &[u8], feed: Feed, origin: &str) {
     let origin = format!("{origin}, {} bytes by {feed:?}", log.len());
-    let output = replay(log, feed);
+    let output = fed("replay", log, feed);
     hold_text(&output.stdout, lines(log).as_bytes(), &origin);
     hold_text(&output.stderr, b"", &origin);
     assert!(output.status.success(), "{origin}: {}", output.status);
-}
-
-/// As a file and through a pipe by turns.
-fn feed(seed: u64) -> Feed<'static> {
-    match seed % 2 {
-        0 => Feed::File,
-        _ => PIPE,
-    }
 }
 
 #[test]
@@ -49,26 +36,19 @@ fn logs_of_accepted_records_are_told_alike() {
         let records = rng.below(120) as usize;
         let log = Log::accepted(records, &mut rng).bytes;
         assert_eq!(Monitor::power_on().replay(&log), (0, records as u64));
-        hold(&log, feed(seed), &format!("seed {seed}"));
+        hold(&log, Feed::by_turns(seed), &format!("seed {seed}"));
     }
 }
 
-/// A log with a record that is refused, with each answer by turns. The records
-/// behind it are not printed, though each is a good one.
-fn refused_log(seed: u64) -> Vec<u8> {
-    let mut rng = Rng::new(seed);
-    let answer = 1 + (seed % 5) as u8;
-    let mut log = Log::accepted(rng.below(30) as usize, &mut rng);
-    log.add_refused(answer, &mut rng);
-    log.grow(rng.below(3) as usize, &mut rng);
-    assert_eq!(Monitor::power_on().replay(&log.bytes).0, answer);
-    log.bytes
-}
-
+/// The records behind the refused one are not printed, though each is a good one.
 #[test]
 fn a_refused_record_of_each_kind_ends_it_alike() {
     for seed in 0..150 {
-        hold(&refused_log(seed), feed(seed), &format!("seed {seed}"));
+        hold(
+            &refused_log(seed),
+            Feed::by_turns(seed),
+            &format!("seed {seed}"),
+        );
     }
 }
 
@@ -78,7 +58,7 @@ fn logs_of_any_records_are_told_alike() {
     for seed in 0..200 {
         let mut rng = Rng::new(seed);
         let log = any_log(rng.below(40), &mut rng);
-        hold(&log, feed(seed), &format!("seed {seed}"));
+        hold(&log, Feed::by_turns(seed), &format!("seed {seed}"));
     }
 }
 
@@ -89,7 +69,11 @@ fn a_log_with_a_changed_byte_is_told_alike() {
         let mut log = Log::accepted(1 + rng.below(12) as usize, &mut rng).bytes;
         let at = rng.below(log.len() as u64) as usize;
         log[at] = rng.byte();
-        hold(&log, feed(seed), &format!("seed {seed}, byte {at} changed"));
+        hold(
+            &log,
+            Feed::by_turns(seed),
+            &format!("seed {seed}, byte {at} changed"),
+        );
     }
 }
 
@@ -98,9 +82,9 @@ fn a_log_with_a_changed_byte_is_told_alike() {
 fn a_log_cut_anywhere_is_told_alike() {
     let log = Log::accepted(3, &mut Rng::new(0)).bytes;
     for length in 0..=log.len() {
-        hold(&log[..length], feed(length as u64), "seed 0, cut");
+        hold(&log[..length], Feed::by_turns(length as u64), "seed 0, cut");
     }
-    for feed in [Feed::File, PIPE] {
+    for feed in [Feed::File, Feed::PIPE] {
         hold(&[], feed, "the empty log");
     }
 }
@@ -137,21 +121,8 @@ fn every_register_is_named_alike() {
 #[test]
 fn logs_about_as_long_as_a_part_are_told_alike() {
     let log = Log::accepted(2 * PART_RECORDS + 1, &mut Rng::new(1)).bytes;
-    for length in [
-        PART - 33,
-        PART - RECORD_LENGTH,
-        PART - 1,
-        PART,
-        PART + 1,
-        PART + 31,
-        PART + RECORD_LENGTH,
-        PART + 33,
-        2 * PART - 1,
-        2 * PART,
-        2 * PART + 1,
-        2 * PART + RECORD_LENGTH,
-    ] {
-        for feed in [Feed::File, PIPE] {
+    for length in ABOUT_A_PART {
+        for feed in [Feed::File, Feed::PIPE] {
             hold(&log[..length], feed, "seed 1, cut");
         }
     }
@@ -162,16 +133,9 @@ fn logs_about_as_long_as_a_part_are_told_alike() {
 fn a_refused_record_at_the_end_of_a_part_ends_it_alike() {
     for (seed, place) in (0..).zip(PART_RECORDS - 2..PART_RECORDS + 2) {
         for answer in 1..=5 {
-            let mut rng = Rng::new(seed);
-            // Answer 4 takes two records, of which the second is refused.
-            let before = place - usize::from(answer == 4);
-            let mut log = Log::accepted(before, &mut rng);
-            log.add_refused(answer, &mut rng);
-            log.grow(PART_RECORDS, &mut rng);
-            let found = Monitor::power_on().replay(&log.bytes);
-            assert_eq!(found, (answer, place as u64));
+            let log = refused_at(place, answer, &mut Rng::new(seed));
             let origin = format!("seed {seed}, answer {answer} at record {place}");
-            hold(&log.bytes, feed(seed), &origin);
+            hold(&log, Feed::by_turns(seed), &origin);
         }
     }
 }
@@ -181,7 +145,7 @@ fn a_log_of_a_megabyte_is_told_alike() {
     let mut log = Log::accepted(16 * PART_RECORDS, &mut Rng::new(2)).bytes;
     hold(&log, Feed::File, "seed 2");
     log.push(1);
-    hold(&log, PIPE, "seed 2, and a byte");
+    hold(&log, Feed::PIPE, "seed 2, and a byte");
 }
 
 #[test]

@@ -50,7 +50,7 @@ impl Refusal {
 
     /// # Panics
     ///
-    /// The proved library answers no other number. One that does is of another
+    /// No call of the proved library answers another number. One that does is of another
     /// edition than this crate.
     pub(crate) fn from_number(number: u8) -> Refusal {
         match number {
@@ -62,7 +62,6 @@ impl Refusal {
             6 => Refusal::BadSpeed,
             7 => Refusal::NoChannel,
             8 => Refusal::BadLength,
-            12 => Refusal::DayFull,
             _ => panic!("answer {number} of libw83782d_c.a is unknown to this crate"),
         }
     }

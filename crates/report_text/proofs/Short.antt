@@ -20,7 +20,7 @@ use Rattle.report_text.specs.Lines.{spacedSigned, extreme, readingLine, 
 
 -- ---- numbers
 
--- a number below 10 to the k has k digits at most
+-- a number below 10 to the k + 1 has k + 1 digits at most
 abbrev Short : ℕ → List ℕ → Type 0
 Short n ds = (k : ℕ) → n < 10 ^ suc k → length ds ≤ suc k
 
@@ -83,7 +83,7 @@ pub end-short : (answer accepted : ℕ) → Fits w64 answer → Fits w64 accepte
 unfolding endLine
 end-short answer accepted fa fn = simp length-append (omega (arith, spaced-21 answer fa, spaced-21 accepted fn))
 
--- so far goes the place behind a word
+-- the place after a word is no farther than the word is long
 pub place-short : (o p w : List ℕ) (at n k : ℕ) → Put o at w p n → length w ≤ k → n ≤ at + k
 place-short o p w at n k f h = omega (arith, f .place)
 

@@ -2,7 +2,7 @@
 // of a register ("41.0 17"), and the last line ("end 12 100000"). Nothing here is of one chip.
 //
 // Each promises besides how far it goes at most (`short`), for a caller who needs room for all of it: a number of 64
-// bits has at most 20 characters, a sign among them, and most stand behind a space.
+// bits has at most 20 characters, with its sign.
 ghost use mathlib.Core.Path.{_≡_};
 ghost use Prim.Native.Nat.{_+_, _*_, _≤_};
 ghost use lib.IntN.{pos};

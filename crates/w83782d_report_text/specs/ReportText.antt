@@ -32,5 +32,5 @@ reportText r =
     ++ (latchedLines (r .first) (r .second) ++ endLine (r .answer) (r .accepted))
 
 -- so many bytes are room for any report, whatever numbers it has
-abbrev pub longestText : ℕ
-longestText = 1811
+abbrev pub textRoom : ℕ
+textRoom = 1811

@@ -7,7 +7,7 @@ ghost use Rattle.text.specs.Text.{Put};
 ghost use Rattle.text_hex.specs.Hex.{hex};
 ghost use Rattle.w83782d_day.specs.Report.{summaryOf};
 ghost use Rattle.w83782d_report.specs.Parts.{viewOf};
-ghost use Rattle.w83782d_report_text.specs.ReportText.{readingLines, latchedLines, reportText, longestText};
+ghost use Rattle.w83782d_report_text.specs.ReportText.{readingLines, latchedLines, reportText, textRoom};
 use report_text::put_counts;
 use report_text::put_end;
 use report_text::put_reading;
@@ -15,7 +15,7 @@ use text_hex::put_hex;
 use w83782d_report::Report;
 
 // Room for any report: 11 lines of at most 87 characters and two of 89, 14 of 45, and the last of 46.
-pub const LONGEST_TEXT: usize = 1811;
+pub const TEXT_ROOM: usize = 1811;
 
 // The readings that have a register of bank 0, from 20h on: the codes, sensor 1 and the counts.
 const IN_BANK_0: usize = 11;
@@ -77,7 +77,7 @@ fn put_latched(out: &mut [u8], at: usize, first: &[u64], second: &[u64]) -> usiz
 // The whole report, as if the log ended here.
 pub fn put_report(out: &mut [u8], at: usize, report: Report) -> usize
     ensures text { λ r. ⌜ Put (now (out .entry)) at (reportText (summaryOf (viewOf report))) (now (out .exit)) r ⌝ }
-    ensures short { λ r. ⌜ r ≤ at + longestText ⌝ }
+    ensures short { λ r. ⌜ r ≤ at + textRoom ⌝ }
 {
     let figures = report.figures;
     let first = report.first;

@@ -131,7 +131,7 @@ pub trait State: Clone {
     fn seen(&self) -> Seen;
 }
 
-/// The same of both programs.
+/// What is compared: the same type, whichever program kept it.
 #[derive(Debug, PartialEq)]
 pub enum Seen {
     Monitor(Monitor),

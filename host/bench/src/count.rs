@@ -8,7 +8,7 @@ use std::fs;
 use std::hint::black_box;
 use std::io::{Error, ErrorKind};
 use std::path::{Path, PathBuf};
-use std::process::{Command, Stdio};
+use std::process::{Command, Output};
 
 /// The function that callgrind counts in.
 const COUNTED: &str = "w83782d_bench_counted";
@@ -56,8 +56,7 @@ fn counted_in(folder: &Path, rows: usize) -> Result<Vec<[u64; 2]>, Error> {
         .arg("count")
         .output()?;
     if !run.status.success() {
-        let said = String::from_utf8_lossy(&run.stderr).into_owned();
-        return Err(Error::other(said));
+        return Err(failure(&run));
     }
     // Files are numbered from 1, in the order of the passes.
     let file = |n: usize| folder.join(format!("{OUT}.{n}"));
@@ -69,20 +68,32 @@ fn counted_in(folder: &Path, rows: usize) -> Result<Vec<[u64; 2]>, Error> {
 // ---- Of a program
 
 /// A command that runs a program under callgrind; its arguments are still to be given.
-pub fn counting(program: &Path, folder: &Path) -> Command {
+pub fn under(program: &Path, folder: &Path) -> Command {
     let mut command = callgrind(folder);
-    command.arg(program).stderr(Stdio::null());
+    command.arg("--quiet").arg(program);
     command
 }
 
-/// Runs it to its end; nothing where there is no valgrind.
-pub fn counted(counting: &mut Command, folder: &Path) -> Option<u64> {
-    let status = counting.status().ok()?;
-    assert!(status.success(), "{counting:?}: {status}");
-    total(folder.join(OUT)).ok()
+/// Runs such a command to its end; nothing where there is no valgrind.
+pub fn of_a_program(command: &mut Command, folder: &Path) -> Option<u64> {
+    let counted = command.output().and_then(|run| match run.status.success() {
+        true => total(folder.join(OUT)),
+        false => Err(failure(&run)),
+    });
+    match counted {
+        Err(error) if error.kind() != ErrorKind::NotFound => {
+            println!("No instruction counts of a program: {error}.\n");
+            None
+        }
+        counted => counted.ok(),
+    }
 }
 
 // ---- What callgrind writes
+
+fn failure(run: &Output) -> Error {
+    Error::other(String::from_utf8_lossy(&run.stderr).into_owned())
+}
 
 /// The file that it writes, in a folder.
 const OUT: &str = "callgrind.out";

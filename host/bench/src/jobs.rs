@@ -20,8 +20,7 @@ const SPEEDS: usize = 2_000;
 /// Rounds of each program, by turns.
 const ROUNDS: usize = 9;
 
-/// Runs for its memory, of which the largest is told: a program that prints at its end
-/// alone may be gone before it is looked at.
+/// Runs for its memory, of which the largest is told.
 const LOOKS: usize = 5;
 
 /// A row of the table: a program and what it is given.
@@ -54,6 +53,10 @@ pub fn jobs(size: Size) -> Vec<Job> {
         replay("replay, any day", &days.any),
         report("report, usual day", &days.usual),
         report("report, any day", &days.any),
+        Job {
+            goal: None,
+            ..report("report, 1 record", &days.usual[..1])
+        },
         Job {
             name: "plan, 2,000 speeds",
             second: "the same lines by host/programs, buffered: Plan::of",
@@ -115,13 +118,13 @@ impl Job {
             rounds[side][round] = took.as_secs_f64() * 1e3;
         }
         let memory = |program: &PathBuf| {
-            let looks = (0..LOOKS).map(|_| process::memory(&mut silent(program)));
+            let looks = (0..LOOKS).map(|_| process::memory(&mut silent(program), &self.input));
             looks.max().expect("it was run")
         };
         let [built, second] = programs.each_ref().map(|program| {
-            let mut counting = count::counting(program, folder);
-            self.give(&mut counting, &input, Stdio::null());
-            count::counted(&mut counting, folder)
+            let mut command = count::under(program, folder);
+            self.give(&mut command, &input, Stdio::null());
+            count::of_a_program(&mut command, folder)
         });
         Cost {
             times: rounds.map(Times::of),

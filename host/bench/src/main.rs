@@ -1,6 +1,6 @@
 //! The proved library and programs beside the second program: nanoseconds and
-//! instructions of a call, milliseconds and memory of a program, their ratios, and
-//! the goals.
+//! instructions of a call, milliseconds, instructions and memory of a program, their
+//! ratios, and the goals.
 //!
 //! `bench` measures, after it has held answers and states of both libraries, and
 //! what both programs print, to each other; `bench programs` measures the programs
@@ -79,5 +79,5 @@ fn both_programs_agree_on_what_is_measured() {
 /// What both programs print is compared in host/programs, on many logs.
 #[test]
 fn days_for_programs_are_accepted_from_power_on() {
-    assert_eq!(jobs(Size::SMALL).len(), 5);
+    assert_eq!(jobs(Size::SMALL).len(), 6);
 }

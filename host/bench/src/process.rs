@@ -2,8 +2,9 @@
 
 use std::ffi::{c_int, c_long};
 use std::fs;
-use std::io::{Error, Read};
+use std::io::{Error, Read, Write};
 use std::process::{Child, Command, Stdio};
+use std::thread;
 use std::time::Duration;
 
 /// Runs a program to its end. How long it ran, from its start to its end, without
@@ -13,25 +14,47 @@ pub fn time(command: &mut Command) -> Duration {
     usage.user.length() + usage.system.length()
 }
 
-/// Runs a program to its end. Its largest resident set in KiB, as it was seen last
-/// before a part of its output was taken: it waits with the next one meanwhile, so
-/// that a short run is seen too. `wait4` tells one as well, but of the process that
-/// started it where that one's is larger.
-pub fn memory(command: &mut Command) -> u64 {
-    let mut child = start(command.stdout(Stdio::piped()));
-    let status = format!("/proc/{}/status", child.id());
-    let mut output = child.stdout.take().expect("its output is a pipe");
+/// Runs a program to its end on this input, through a pipe. Its largest resident set in
+/// KiB, as it was seen when it had taken the input and waited for its end, and each time
+/// before a part of its output was taken: it may wait with the next one meanwhile. So a
+/// short run is seen too. `wait4` tells one as well, but of the process that started it
+/// where that one's is larger.
+pub fn memory(command: &mut Command, input: &[u8]) -> u64 {
+    let mut child = start(command.stdin(Stdio::piped()).stdout(Stdio::piped()));
+    let process = child.id();
+    let mut to = child.stdin.take().expect("its input is a pipe");
+    let from = child.stdout.take().expect("its output is a pipe");
+    let largest = thread::scope(|scope| {
+        let printing = scope.spawn(move || while_printing(process, from));
+        to.write_all(input).expect("the pipe takes the input");
+        wait_until_it_waits(process);
+        let waiting = largest_set(process);
+        drop(to);
+        waiting.max(printing.join().expect("the output is read"))
+    });
+    end(child);
+    largest.expect("it was seen once")
+}
+
+fn while_printing(process: u32, mut output: impl Read) -> Option<u64> {
     let mut part = [0; 4096];
-    let mut largest = 0;
+    let mut largest = None;
     loop {
-        // It is not there any more once the process has ended.
-        largest = largest_set(&status).map_or(largest, |now| now.max(largest));
+        largest = largest_set(process).max(largest);
         if output.read(&mut part).expect("the pipe is read") == 0 {
-            break;
+            return largest;
         }
     }
-    end(child);
-    largest
+}
+
+/// Waits while a process is at work. Linux tells it, after the name: "N (name) S ..". S
+/// is asleep, Z has ended.
+fn wait_until_it_waits(process: u32) {
+    let stat = format!("/proc/{process}/stat");
+    let works = |stat: String| !stat.contains(") S ") && !stat.contains(") Z ");
+    while fs::read_to_string(&stat).is_ok_and(works) {
+        thread::yield_now();
+    }
 }
 
 fn start(command: &mut Command) -> Child {
@@ -39,9 +62,9 @@ fn start(command: &mut Command) -> Child {
     started.unwrap_or_else(|error| panic!("{:?}: {error}", command.get_program()))
 }
 
-/// The line "VmHWM: N kB".
-fn largest_set(status: &str) -> Option<u64> {
-    let text = fs::read_to_string(status).ok()?;
+/// The line "VmHWM: N kB"; it is not there any more once the process has ended.
+fn largest_set(process: u32) -> Option<u64> {
+    let text = fs::read_to_string(format!("/proc/{process}/status")).ok()?;
     let line = text.lines().find_map(|line| line.strip_prefix("VmHWM:"))?;
     line.trim().strip_suffix(" kB")?.parse().ok()
 }

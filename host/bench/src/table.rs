@@ -93,7 +93,7 @@ fn print_own(calls: &Calls) {
             rated(ns, None, Some(goal)),
         );
     }
-    println!("(both by the library, on the same log; the goal is for the time)\n");
+    println!("(both by the library, on the same log; the goal is for the time: a report does all that a\nreplay does, and keeps figures besides)\n");
 }
 
 /// What the rows are, whose numbers each pair has, and the units of the pairs.

@@ -189,6 +189,18 @@ fn a_log_is_reported_up_to_what_ends_it() {
     }
 }
 
+/// The gate runs `day_report` on those hours and a refused record, and these are the
+/// lines that it expects.
+#[test]
+fn the_gates_lines_are_those_of_these_hours() {
+    let folder = Path::new(env!("CARGO_MANIFEST_DIR")).join("../../crates/day_report");
+    let log = fs::read(folder.join("stdin")).expect("the gate's log");
+    let lines = fs::read_to_string(folder.join("stdout")).expect("the gate's lines");
+    assert!(log.starts_with(&some_hours()));
+    assert_eq!(log[some_hours().len()..][..RECORD], read(0x1F));
+    assert_eq!(lines, [SOME_HOURS, "end 1 18\n"].concat());
+}
+
 #[test]
 fn a_piece_of_a_record_alone_is_5() {
     for length in 1..RECORD {

@@ -499,7 +499,9 @@ fn nothing_is_shown_where_all_is_proved() {
 
 #[test]
 fn nothing_is_shown_without_a_terminal() {
-    let output = not_built("no-terminal", REPORT).run(&[]);
-    assert!(output.status.success(), "{output:?}");
-    assert_eq!(texts(&output), [REPORT.end, ""]);
+    for job in JOBS {
+        let output = not_built("no-terminal", job).run(&[]);
+        assert!(output.status.success(), "{output:?}");
+        assert_eq!(texts(&output), [job.end, ""]);
+    }
 }

@@ -2,8 +2,12 @@
 //! that can't be read, before any of it or after a part.
 
 use crate::program::{built, hold_text, top};
+use crate::replay;
+use reference::w83782d::RECORD_LENGTH;
 use std::fs::{self, File, OpenOptions};
 use std::io::Write;
+use std::os::fd::OwnedFd;
+use std::os::unix::net::UnixStream;
 use std::process::{Command, Output, Stdio};
 
 /// A device that takes no byte.
@@ -62,7 +66,6 @@ fn replay_tells_that_its_log_was_not_read() {
     hold_text(&found.stderr, told, "errors");
 }
 
-/// What it has read so far is no report.
 #[test]
 fn day_report_tells_that_its_log_was_not_read() {
     let folder = File::open(top()).expect("the folder is opened");
@@ -70,6 +73,41 @@ fn day_report_tells_that_its_log_was_not_read() {
     hold_text(&found.stdout, b"", "output");
     let told = b"day_report: standard input: Is a directory\n";
     hold_text(&found.stderr, told, "errors");
+}
+
+/// Runs a program on a log of which no more can be read than this part.
+fn run_on_part(program: &str, part: &[u8]) -> Output {
+    let (input, mut rest) = UnixStream::pair().expect("two sockets");
+    rest.write_all(part).expect("the part is written");
+    // After the part there is nothing to read, and no end either: a read fails.
+    input.set_nonblocking(true).expect("a mode");
+    let found = run(built(program).stdin(OwnedFd::from(input)));
+    drop(rest);
+    found
+}
+
+#[test]
+fn replay_tells_that_the_rest_was_not_read() {
+    let day = fs::read(top().join("examples/cabinet-day.log")).expect("the bundled log");
+    let part = &day[..10 * RECORD_LENGTH];
+    let found = run_on_part("replay", part);
+    let lines = replay::lines(part);
+    let end = lines.trim_end().rfind('\n').expect("more than one line") + 1;
+    hold_text(&found.stdout, &lines.as_bytes()[..end], "output");
+    let told = b"replay: standard input: Resource temporarily unavailable\n";
+    hold_text(&found.stderr, told, "errors");
+}
+
+/// What it has read so far is no report.
+#[test]
+fn day_report_tells_that_the_rest_was_not_read() {
+    let day = fs::read(top().join("examples/cabinet-day.log")).expect("the bundled log");
+    for length in [10 * RECORD_LENGTH, day.len() - 1, day.len()] {
+        let found = run_on_part("day_report", &day[..length]);
+        hold_text(&found.stdout, b"", "output");
+        let told = b"day_report: standard input: Resource temporarily unavailable\n";
+        hold_text(&found.stderr, told, "errors");
+    }
 }
 
 #[test]

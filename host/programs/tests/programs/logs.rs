@@ -46,7 +46,7 @@ fn event(rng: &mut Rng) -> Event {
     }
 }
 
-/// A log that grows by records that are accepted, and the monitor behind it.
+/// A log that grows by records that are accepted, and the monitor after it.
 pub struct Log {
     pub bytes: Vec<u8>,
     monitor: Monitor,
@@ -129,7 +129,7 @@ pub fn any_log(records: u64, rng: &mut Rng) -> Vec<u8> {
 }
 
 /// A log with a record that is refused, with each answer by turns, and good records
-/// behind it.
+/// after it.
 pub fn refused_log(seed: u64) -> Vec<u8> {
     let mut rng = Rng::new(seed);
     let answer = 1 + (seed % 5) as u8;
@@ -160,7 +160,7 @@ pub const ABOUT_A_PART: [usize; 12] = [
 ];
 
 /// A log in which the record of this number, from 0, is the first to be refused, with
-/// this answer, 1 to 5; good ones are behind it, as many as a part has.
+/// this answer, 1 to 5; good ones come after it, as many as a part has.
 pub fn refused_at(place: usize, answer: u8, rng: &mut Rng) -> Vec<u8> {
     // Answer 4 takes two records, of which the second is refused.
     let before = place - usize::from(answer == 4);

@@ -12,6 +12,7 @@ mod failures;
 mod logs;
 mod plan;
 mod program;
+mod readers;
 mod replay;
 mod report;
 mod second;

@@ -41,8 +41,8 @@ pub enum Feed<'a> {
     File,
     /// Through a pipe, in pieces of these lengths by turns.
     Pieces(&'a [usize]),
-    /// So too, each piece once the program has taken those before and waits for more, so
-    /// that reads come back short.
+    /// The same, but each piece is written only when the program has read those before it
+    /// and waits for more, so that reads come back short.
     SlowPieces(&'a [usize]),
 }
 

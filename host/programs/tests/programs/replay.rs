@@ -1,11 +1,11 @@
-//! `replay` on many logs, as files and through pipes.
+//! What `replay` should print, and logs for it alone.
 
 use crate::common::record;
 use crate::common::rng::Rng;
-use crate::logs::{any_log, refused_at, refused_log, Log, ABOUT_A_PART, PART_RECORDS};
-use crate::program::{fed, hold_text, top, Feed};
-use programs::PART;
-use reference::w83782d::{Event, Monitor, RECORD_LENGTH};
+use crate::logs::{refused_log, Log, PART_RECORDS};
+use crate::program::{hold_text, top, Feed};
+use crate::readers::REPLAY;
+use reference::w83782d::{Event, Monitor};
 use std::fs;
 
 /// What `replay` should print for a log. Its end is that of the second program's own
@@ -18,75 +18,6 @@ pub fn lines(log: &[u8]) -> String {
     let end = format!("end: answer {answer}, accepted {accepted}");
     assert_eq!(lines.lines().last(), Some(&*end));
     lines
-}
-
-/// Holds all that `replay` prints for a log to the second program.
-fn hold(log: &[u8], feed: Feed, origin: &str) {
-    let origin = format!("{origin}, {} bytes by {feed:?}", log.len());
-    let output = fed("replay", log, feed);
-    hold_text(&output.stdout, lines(log).as_bytes(), &origin);
-    hold_text(&output.stderr, b"", &origin);
-    assert!(output.status.success(), "{origin}: {}", output.status);
-}
-
-#[test]
-fn logs_of_accepted_records_are_told_alike() {
-    for seed in 0..120 {
-        let mut rng = Rng::new(seed);
-        let records = rng.below(120) as usize;
-        let log = Log::accepted(records, &mut rng).bytes;
-        assert_eq!(Monitor::power_on().replay(&log), (0, records as u64));
-        hold(&log, Feed::by_turns(seed), &format!("seed {seed}"));
-    }
-}
-
-/// The records behind the refused one are not printed, though each is a good one.
-#[test]
-fn a_refused_record_of_each_kind_ends_it_alike() {
-    for seed in 0..150 {
-        hold(
-            &refused_log(seed),
-            Feed::by_turns(seed),
-            &format!("seed {seed}"),
-        );
-    }
-}
-
-/// Most end early, by an answer of any kind.
-#[test]
-fn logs_of_any_records_are_told_alike() {
-    for seed in 0..200 {
-        let mut rng = Rng::new(seed);
-        let log = any_log(rng.below(40), &mut rng);
-        hold(&log, Feed::by_turns(seed), &format!("seed {seed}"));
-    }
-}
-
-#[test]
-fn a_log_with_a_changed_byte_is_told_alike() {
-    for seed in 0..150 {
-        let mut rng = Rng::new(seed);
-        let mut log = Log::accepted(1 + rng.below(12) as usize, &mut rng).bytes;
-        let at = rng.below(log.len() as u64) as usize;
-        log[at] = rng.byte();
-        hold(
-            &log,
-            Feed::by_turns(seed),
-            &format!("seed {seed}, byte {at} changed"),
-        );
-    }
-}
-
-/// Every length, the empty log too.
-#[test]
-fn a_log_cut_anywhere_is_told_alike() {
-    let log = Log::accepted(3, &mut Rng::new(0)).bytes;
-    for length in 0..=log.len() {
-        hold(&log[..length], Feed::by_turns(length as u64), "seed 0, cut");
-    }
-    for feed in [Feed::File, Feed::PIPE] {
-        hold(&[], feed, "the empty log");
-    }
 }
 
 /// An access to every index, the banked ones in every bank: the name of its
@@ -108,73 +39,20 @@ fn every_register_is_named_alike() {
                 let log = [select, record(&event)].concat();
                 match Monitor::power_on().replay(&log).0 {
                     0 => accepted.extend(log),
-                    _ => hold(&log, Feed::File, &format!("bank {bank}, {event:?}")),
+                    _ => REPLAY.hold(&log, Feed::File, &format!("bank {bank}, {event:?}")),
                 }
             }
         }
-        hold(&accepted, Feed::File, &format!("bank {bank}, accepted"));
-    }
-}
-
-// ---- More than is read at a time
-
-#[test]
-fn logs_about_as_long_as_a_part_are_told_alike() {
-    let log = Log::accepted(2 * PART_RECORDS + 1, &mut Rng::new(1)).bytes;
-    for length in ABOUT_A_PART {
-        for feed in [Feed::File, Feed::PIPE] {
-            hold(&log[..length], feed, "seed 1, cut");
-        }
-    }
-}
-
-/// The last record of a part, the first of the next, and those beside them.
-#[test]
-fn a_refused_record_at_the_end_of_a_part_ends_it_alike() {
-    for (seed, place) in (0..).zip(PART_RECORDS - 2..PART_RECORDS + 2) {
-        for answer in 1..=5 {
-            let log = refused_at(place, answer, &mut Rng::new(seed));
-            let origin = format!("seed {seed}, answer {answer} at record {place}");
-            hold(&log, Feed::by_turns(seed), &origin);
-        }
+        REPLAY.hold(&accepted, Feed::File, &format!("bank {bank}, accepted"));
     }
 }
 
 #[test]
 fn a_log_of_a_megabyte_is_told_alike() {
     let mut log = Log::accepted(16 * PART_RECORDS, &mut Rng::new(2)).bytes;
-    hold(&log, Feed::File, "seed 2");
+    REPLAY.hold(&log, Feed::File, "seed 2");
     log.push(1);
-    hold(&log, Feed::PIPE, "seed 2, and a byte");
-}
-
-#[test]
-fn input_in_small_pieces_is_told_alike() {
-    for seed in 0..4 {
-        let mut rng = Rng::new(seed);
-        let mut log = Log::accepted(40, &mut rng).bytes;
-        log.truncate(log.len() - rng.below(2 * RECORD_LENGTH as u64) as usize);
-        let origin = format!("seed {seed}");
-        for lengths in [&[7][..], &[31, 33, 1], &[32], &[1, 64, 3, 95]] {
-            hold(&log, Feed::SlowPieces(lengths), &origin);
-        }
-    }
-}
-
-/// Reads come back short, and no part is filled by one of them.
-#[test]
-fn a_long_log_in_pieces_is_told_alike() {
-    let log = Log::accepted(PART_RECORDS + 700, &mut Rng::new(3)).bytes;
-    for length in [PART - 5, PART, log.len() - 3, log.len()] {
-        for lengths in [&[4_095, 1, 4_097][..], &[8_191, 513], &[50_001]] {
-            hold(&log[..length], Feed::SlowPieces(lengths), "seed 3, cut");
-        }
-    }
-    let mut refused = Log::accepted(100, &mut Rng::new(4));
-    refused.add_refused(5, &mut Rng::new(4));
-    refused.grow(2 * PART_RECORDS, &mut Rng::new(4));
-    // Much of the log is never read, and what it is written to is closed.
-    hold(&refused.bytes, Feed::SlowPieces(&[999]), "seed 4");
+    REPLAY.hold(&log, Feed::PIPE, "seed 2, and a byte");
 }
 
 // ---- What is expected
@@ -195,7 +73,7 @@ fn the_cabinets_day_is_told_as_readme_shows_it() {
     for line in shown {
         assert!(expected.lines().any(|other| other == line), "{line}");
     }
-    hold(&log, Feed::File, "the cabinet's day");
+    REPLAY.hold(&log, Feed::File, "the cabinet's day");
 }
 
 /// The gate holds `replay` to one log, with lines worked out from the paper.

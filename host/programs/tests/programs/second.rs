@@ -2,7 +2,7 @@
 //! built ones against, print what the library gives.
 
 use crate::program::{hold_text, top};
-use crate::{plan, replay};
+use crate::{plan, replay, report};
 use std::fs::{self, File, OpenOptions};
 use std::process::{Command, Output};
 
@@ -42,10 +42,8 @@ fn day_report_prints_the_report_of_a_day() {
     let found = Command::new(env!("CARGO_BIN_EXE_day_report"))
         .stdin(File::open(&path).expect("the bundled log"))
         .output();
-    let mut lines = Vec::new();
-    programs::report(&log[..], &mut lines).expect("memory is written");
-    assert!(lines.ends_with(b"\nend 0 133\n"));
-    hold(found.expect("day_report runs"), &lines, b"");
+    let lines = report::lines(&log);
+    hold(found.expect("day_report runs"), lines.as_bytes(), b"");
 }
 
 /// One line on standard error, the first words of it, and a status that isn't 0.

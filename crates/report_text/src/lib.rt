@@ -35,7 +35,7 @@ fn put_extreme(out: &mut [u8], at: usize, samples: u64, z: i64) -> usize
     put_signed_number(out, at, z)
 }
 
-// The line of a reading by its three numbers.
+// The line of a reading by its three numbers. Beside its name: four numbers, each after a space, and the line's end.
 fn put_figure(
     out: &mut [u8],
     at: usize,
@@ -91,7 +91,8 @@ pub fn put_reading(
     put_figure(out, at, name, samples, least, greatest, sum)
 }
 
-// The line of one bit of a register: both, and the count.
+// The line of one bit of a register: both, and the count. Beside the register: a point, two numbers, the second after a
+// space, and the line's end.
 fn put_count(out: &mut [u8], at: usize, register: &[u8], bit: u64, n: u64) -> usize
     ensures line { λ r. ⌜ Put (now (out .entry)) at (countLine (now (register .entry)) bit n) (now (out .exit)) r ⌝ }
     ensures short { λ r. ⌜ r ≤ at + (length (now (register .entry)) + 43) ⌝ }
@@ -118,7 +119,8 @@ pub fn put_counts(out: &mut [u8], at: usize, register: &[u8], counts: &[u64]) ->
     next
 }
 
-// The last line: the answer, and how many records were accepted.
+// The last line: the answer, and how many records were accepted. Besides "end": two numbers, each after a space, and
+// the line's end.
 pub fn put_end(out: &mut [u8], at: usize, answer: u8, accepted: u64) -> usize
     ensures line { λ r. ⌜ Put (now (out .entry)) at (endLine answer accepted) (now (out .exit)) r ⌝ }
     ensures short { λ r. ⌜ r ≤ at + 46 ⌝ }

@@ -89,11 +89,11 @@
 #define W83782D_OUTPUTS_OVT_2(word) ((uint8_t)(((word) >> 1) & 1))
 #define W83782D_OUTPUTS_OVT_3(word) ((uint8_t)(((word) >> 2) & 1))
 
-/* Of w83782d_speed: the kind in the top byte, the speed of a number below it. Any
+/* Of w83782d_speed: the kind in the top byte, the tenths of rpm of a number below it. Any
  * other kind is a refusal, 80h + answer; the answer is 0 where there is none. */
 #define W83782D_SPEED_KIND(word) ((uint8_t)((word) >> 24))
 #define W83782D_SPEED_ANSWER(word) ((uint8_t)((word) >> 31 ? ((word) >> 24) & 0x7F : 0))
-#define W83782D_SPEED_RPM(word) ((uint32_t)((word) & 0xFFFFFF))
+#define W83782D_SPEED_TENTHS(word) ((uint32_t)((word) & 0xFFFFFF))
 #define W83782D_NUMBER 0
 #define W83782D_TOO_FAST 1
 #define W83782D_TOO_SLOW 2
@@ -222,8 +222,9 @@ uint32_t w83782d_outputs(const uint8_t *image, size_t n);
 
 /*
  * The speed of fan 1 to 3, from its stored count and the divisor now set. The top
- * byte is W83782D_NUMBER, with the rpm in the low 24 bits, W83782D_TOO_FAST
- * (count 0), W83782D_TOO_SLOW (count 255), or 80h + answer, 8 (n) or 7 (fan).
+ * byte is W83782D_NUMBER, with tenths of rpm in the low 24 bits, 415 to 13,500,000;
+ * W83782D_TOO_FAST (count 0); W83782D_TOO_SLOW (count 255); or 80h + answer, 8 (n)
+ * or 7 (fan). Plans are in whole rpm.
  */
 W83782D_MUST_USE
 uint32_t w83782d_speed(const uint8_t *image, size_t n, uint8_t fan);

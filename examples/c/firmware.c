@@ -284,7 +284,7 @@ static bool show(int second)
     printf("sensor 2 at %.1f, fan 1 ", W83782D_HALF_DEGREES(sensor_2) / 2.0);
     switch (W83782D_SPEED_KIND(fan_1)) {
     case W83782D_NUMBER:
-        printf("at %lu rpm", (unsigned long)W83782D_SPEED_RPM(fan_1));
+        printf("at %.1f rpm", W83782D_SPEED_TENTHS(fan_1) / 10.0);
         break;
     case W83782D_TOO_FAST:
         printf("too fast");

@@ -133,7 +133,7 @@ impl Firmware {
         print!("{second} s: +12 at {millivolts} mV, ");
         print!("sensor 2 at {:.1}, fan 1 ", f64::from(half_degrees) / 2.0);
         match self.monitor.speed(1)? {
-            Speed::Rpm(rpm) => print!("at {rpm} rpm"),
+            Speed::Tenths(tenths) => print!("at {:.1} rpm", f64::from(tenths) / 10.0),
             Speed::TooFast => print!("too fast"),
             Speed::TooSlow => print!("too slow"),
         }

@@ -116,7 +116,7 @@ impl Monitor {
     ///     counts: [306, 0, u32::MAX],
     /// };
     /// monitor.sample(&sample)?;
-    /// assert_eq!(monitor.speed(1), Ok(Speed::Rpm(4_412)));
+    /// assert_eq!(monitor.speed(1), Ok(Speed::Tenths(44_118)));
     /// assert_eq!(monitor.speed(2), Ok(Speed::TooFast));
     /// assert_eq!(monitor.speed(3), Ok(Speed::TooSlow));
     /// assert_eq!(monitor.temperature(1), Ok(-10));

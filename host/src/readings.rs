@@ -20,8 +20,8 @@ pub struct Outputs {
 /// The speed of a fan, from its stored count and the divisor now set.
 #[derive(Clone, Copy, Debug, PartialEq, Eq)]
 pub enum Speed {
-    /// Turns in a minute.
-    Rpm(u32),
+    /// Tenths of rpm, 415 to 13,500,000. Plans are in whole rpm.
+    Tenths(u32),
     /// Count 0.
     TooFast,
     /// Count 255.
@@ -49,7 +49,7 @@ impl Monitor {
         // SAFETY: pointer and length are those of the image, which is lent for the call.
         let word = unsafe { raw::w83782d_speed(self.image.as_ptr(), IMAGE_SIZE, fan) };
         match word >> 24 {
-            0 => Ok(Speed::Rpm(word)),
+            0 => Ok(Speed::Tenths(word)),
             1 => Ok(Speed::TooFast),
             2 => Ok(Speed::TooSlow),
             // 80h + answer; anything else is an answer that there is not.

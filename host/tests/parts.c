@@ -32,9 +32,9 @@ static_assert(W83782D_OUTPUTS_SMI(0x000E01) && !W83782D_OUTPUTS_SMI(0x000E06), "
 static_assert(W83782D_OUTPUTS_OVT_2(0x02) && !W83782D_OUTPUTS_OVT_2(0x05), "outputs, OVT 2");
 static_assert(W83782D_OUTPUTS_OVT_3(0x04) && !W83782D_OUTPUTS_OVT_3(0x03), "outputs, OVT 3");
 
-static_assert(W83782D_SPEED_KIND(0x0000113C) == W83782D_NUMBER, "speed, kind");
-static_assert(W83782D_SPEED_RPM(0x0000113C) == 4412, "speed, rpm");
-static_assert(W83782D_SPEED_ANSWER(0x0000113C) == W83782D_ACCEPTED, "speed, answer");
+static_assert(W83782D_SPEED_KIND(0x0000AC56) == W83782D_NUMBER, "speed, kind");
+static_assert(W83782D_SPEED_TENTHS(0x0000AC56) == 44118, "speed, tenths of rpm");
+static_assert(W83782D_SPEED_ANSWER(0x0000AC56) == W83782D_ACCEPTED, "speed, answer");
 static_assert(W83782D_SPEED_KIND(0x01000000) == W83782D_TOO_FAST, "speed, kind");
 static_assert(W83782D_SPEED_KIND(0x02000000) == W83782D_TOO_SLOW, "speed, kind");
 static_assert(W83782D_SPEED_ANSWER(0x02000000) == W83782D_ACCEPTED, "speed, answer");

@@ -25,7 +25,7 @@ pub mod w83l784r;
 pub use in_force::{End, InForce, Plan, Rewrites};
 pub use plan::{plan, u_of_speed};
 pub use sensor::Mark;
-pub use speed::{Speed, SpeedInTenths};
+pub use speed::Speed;
 
 /// "Answer numbers" of document 01.
 pub mod answer {

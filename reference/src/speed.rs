@@ -1,15 +1,16 @@
-//! A fan's speed, from "Readings" of document 01, in rpm or, by request C-12, in
-//! tenths of rpm.
+//! A fan's speed, from "Readings" of document 01 as request C-12 amends them: in tenths
+//! of rpm.
 
 use crate::answer::{ACCEPTED, NO_CHANNEL};
 
-/// "1,350,000 / (count x divisor)".
+/// "1,350,000 / w": what a fan counts, for planning.
 pub(crate) const COUNTS_PER_MINUTE: u32 = 1_350_000;
 
-/// "Count 0 answers "too fast" and 255 "too slow", never a number."
+/// "Count 0 answers "too fast" and 255 "too slow", never a number"; "the speed reading
+/// becomes tenths of rpm".
 #[derive(Clone, Copy, Debug, PartialEq, Eq)]
 pub enum Speed {
-    Rpm(u32),
+    Tenths(u32),
     TooFast,
     TooSlow,
     /// Answer 7: a fan that the chip doesn't have.
@@ -22,50 +23,16 @@ impl Speed {
         match count {
             0 => Speed::TooFast,
             255 => Speed::TooSlow,
-            // "For count 1 to 254 it is 1,350,000 / (count x divisor), nearest,
-            // halves up."
-            _ => Speed::Rpm(nearest(COUNTS_PER_MINUTE, u32::from(count) * divisor)),
-        }
-    }
-
-    /// The answer number: too fast and too slow are accepted.
-    pub fn answer(self) -> u8 {
-        match self {
-            Speed::Rpm(_) | Speed::TooFast | Speed::TooSlow => ACCEPTED,
-            Speed::Refused => NO_CHANNEL,
-        }
-    }
-}
-
-/// The speed reading in tenths of rpm: ""too fast" and "too slow" stay" (C-12).
-#[derive(Clone, Copy, Debug, PartialEq, Eq)]
-pub enum SpeedInTenths {
-    Tenths(u32),
-    TooFast,
-    TooSlow,
-    /// Answer 7: a fan that the chip doesn't have.
-    Refused,
-}
-
-impl SpeedInTenths {
-    /// The speed of a stored count under a divisor.
-    pub(crate) fn of(count: u8, divisor: u32) -> SpeedInTenths {
-        match count {
-            0 => SpeedInTenths::TooFast,
-            255 => SpeedInTenths::TooSlow,
             // "Nearest to 13,500,000 / (count x divisor), halves up."
-            _ => {
-                let tenths = nearest(10 * COUNTS_PER_MINUTE, u32::from(count) * divisor);
-                SpeedInTenths::Tenths(tenths)
-            }
+            _ => Speed::Tenths(nearest(13_500_000, u32::from(count) * divisor)),
         }
     }
 
     /// The answer number: too fast and too slow are accepted.
     pub fn answer(self) -> u8 {
         match self {
-            SpeedInTenths::Tenths(_) | SpeedInTenths::TooFast | SpeedInTenths::TooSlow => ACCEPTED,
-            SpeedInTenths::Refused => NO_CHANNEL,
+            Speed::Tenths(_) | Speed::TooFast | Speed::TooSlow => ACCEPTED,
+            Speed::Refused => NO_CHANNEL,
         }
     }
 }

@@ -126,7 +126,7 @@ fn a_fan_or_sensor_not_1_to_3_is_refused() {
 
 #[test]
 fn a_number_too_fast_and_too_slow_are_answered_0() {
-    for speed in [Speed::Rpm(1), Speed::TooFast, Speed::TooSlow] {
+    for speed in [Speed::Tenths(1), Speed::TooFast, Speed::TooSlow] {
         assert_eq!(speed.answer(), 0);
     }
 }

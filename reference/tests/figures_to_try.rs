@@ -27,12 +27,12 @@ fn speed_0_and_1_350_001_are_answered_6() {
 }
 
 #[test]
-fn count_153_with_divisor_2_is_4412_rpm() {
+fn count_153_with_divisor_2_is_44118_tenths() {
     let mut m = Monitor::power_on();
     // Power-on sets divisor 2 for every fan (6.4.1 of the data sheet).
     for fan in 1..=3 {
         m.registers[0x28 - 0x20 + usize::from(fan) - 1] = 153;
-        assert_eq!(m.speed(fan), Speed::Rpm(4_412));
+        assert_eq!(m.speed(fan), Speed::Tenths(44_118));
     }
 }
 

@@ -70,46 +70,51 @@ fn with_count(count: u8, k: u8) -> Monitor {
 
 #[test]
 fn speed_is_rounded_to_the_nearest_halves_up() {
-    for (count, k, rpm) in [
-        (1, 0, 1_350_000),
-        // 42,187.5 and 14,062.5.
-        (32, 0, 42_188),
-        (1, 5, 42_188),
-        (48, 1, 14_063),
-        // Table 1 of the data sheet with count 153.
-        (153, 0, 8_824),
-        (153, 1, 4_412),
-        (153, 2, 2_206),
-        (153, 3, 1_103),
-        (153, 4, 551),
-        (153, 5, 276),
-        (153, 6, 138),
-        (153, 7, 69),
-        // 1,350,000 / 32,512 = 41.52.
-        (254, 7, 42),
-        // 1,350,000 / 254 = 5,314.96.
-        (254, 0, 5_315),
+    for (count, k, tenths) in [
+        (1, 0, 13_500_000),
+        (32, 0, 421_875),
+        // 210,937.5, 70,312.5 and 1,687.5.
+        (1, 6, 210_938),
+        (3, 6, 70_313),
+        (125, 6, 1_688),
+        // Table 1 of the data sheet with count 153; rounded once: ten times the rpm
+        // would be 44,120.
+        (153, 0, 88_235),
+        (153, 1, 44_118),
+        (153, 2, 22_059),
+        (153, 3, 11_029),
+        (153, 4, 5_515),
+        (153, 5, 2_757),
+        (153, 6, 1_379),
+        (153, 7, 689),
+        // 13,500,000 / 32,512 = 415.23, and not 420.
+        (254, 7, 415),
+        // 13,500,000 / 254 = 53,149.61.
+        (254, 0, 53_150),
     ] {
         let m = with_count(count, k);
         for fan in 1..=3 {
-            assert_eq!(m.speed(fan), Speed::Rpm(rpm), "count {count} k {k}");
+            assert_eq!(m.speed(fan), Speed::Tenths(tenths), "count {count} k {k}");
         }
     }
 }
 
 #[test]
 fn every_count_and_divisor_gives_the_nearest_speed() {
+    let mut halves = 0;
     for k in 0..8 {
         for count in 1..=254 {
             let n = i64::from(count) << k;
-            let Speed::Rpm(rpm) = with_count(count, k).speed(1) else {
+            let Speed::Tenths(tenths) = with_count(count, k).speed(1) else {
                 panic!("no number for count {count}");
             };
-            // -n/2 < rpm * n - 1,350,000 <= n/2: nearest, halves up.
-            let twice = 2 * (i64::from(rpm) * n - 1_350_000);
+            // -n/2 < tenths * n - 13,500,000 <= n/2: nearest, halves up.
+            let twice = 2 * (i64::from(tenths) * n - 13_500_000);
             assert!(-n < twice && twice <= n, "count {count} k {k}");
+            halves += usize::from(twice == n);
         }
     }
+    assert_eq!(halves, 47);
 }
 
 #[test]
@@ -129,10 +134,10 @@ fn speed_takes_the_divisor_now_set_and_each_fan_its_own() {
     assert_eq!(m.write(0x47, 0b1100_0000), 0);
     assert_eq!(m.write(0x4B, 0b1000_0000), 0);
     assert_eq!(m.write(0x5D, 0b1000_0000), 0);
-    assert_eq!(m.speed(1), Speed::Rpm(13_500));
-    // 1,687.5 and 210.94.
-    assert_eq!(m.speed(2), Speed::Rpm(1_688));
-    assert_eq!(m.speed(3), Speed::Rpm(211));
+    assert_eq!(m.speed(1), Speed::Tenths(135_000));
+    assert_eq!(m.speed(2), Speed::Tenths(16_875));
+    // 2,109.375.
+    assert_eq!(m.speed(3), Speed::Tenths(2_109));
     // The stored counts have not moved.
     for index in 0x28..=0x2A {
         assert_eq!(m.look(index), (0, 100));

@@ -5,7 +5,7 @@ mod common;
 use common::w83l784r::{any_state, at};
 use common::Rng;
 use reference::w83l784r::Monitor;
-use reference::SpeedInTenths::{self, Refused, Tenths, TooFast, TooSlow};
+use reference::Speed::{self, Refused, Tenths, TooFast, TooSlow};
 
 /// A monitor with a count on one fan, and the divisor 2 to the power k.
 fn with_count(fan: u8, count: u8, k: u8) -> Monitor {
@@ -82,7 +82,7 @@ fn another_fan_answers_7() {
 
 #[test]
 fn a_number_too_fast_and_too_slow_are_answered_0() {
-    for speed in [SpeedInTenths::Tenths(1), TooFast, TooSlow] {
+    for speed in [Speed::Tenths(1), TooFast, TooSlow] {
         assert_eq!(speed.answer(), 0);
     }
 }

@@ -1,16 +1,18 @@
--- The speed reading (rule R-2).
-use Prim.Native.Nat.{ℕ, _*_}
+-- The speed reading (rule R-2), in tenths of rpm.
+use Prim.Native.Nat.{ℕ, _+_, _*_, _^_, _≤_, _<_}
+use mathlib.Core.Path.{_≡_}
 use lib.Dec.{eqb}
 use Rattle.answers.specs.Answers as answers
 use Rattle.bits.specs.Bits.{choose}
 use Rattle.numbers.specs.Rounding.{nearest}
 use Rattle.fan.specs.declared.Speed.{Speed}
-use Rattle.fan.specs.declared.Speed.the-variants.{Rpm, TooFast, TooSlow, Refused, WrongLength}
-use Rattle.fan.specs.Count.{perMinute}
+use Rattle.fan.specs.declared.Speed.the-variants.{Tenths, TooFast, TooSlow, Refused, WrongLength}
+use Rattle.fan.specs.declared.Divisor.{Divisor}
+use Rattle.fan.specs.Count.{perMinute, valueOf}
 
 -- the answer: A-7, A-8; "too fast" and "too slow" are accepted. decisions D-47, D-01
 abbrev pub speedAnswer : Speed → ℕ
-speedAnswer (Rpm n) = 0
+speedAnswer (Tenths n) = 0
 speedAnswer TooFast = 0
 speedAnswer TooSlow = 0
 speedAnswer Refused = answers.noChannel
@@ -18,12 +20,34 @@ speedAnswer WrongLength = answers.wrongLength
 
 -- the number that is read; 0 where there is none
 abbrev pub speedValue : Speed → ℕ
-speedValue (Rpm n) = n
+speedValue (Tenths n) = n
 speedValue TooFast = 0
 speedValue TooSlow = 0
 speedValue Refused = 0
 speedValue WrongLength = 0
 
--- R-2: 1,350,000 / (count x divisor), nearest, halves up; count 0 is too fast, 255 too slow
+-- what a fan at one tenth of a turn a minute counts: the unit of a reading, and of nothing else
+abbrev pub perTenth : ℕ
+perTenth = 13500000
+
+-- R-2: 13,500,000 / (count x divisor), nearest, halves up; count 0 is too fast, 255 too slow
 unfoldable pub countSpeed : ℕ → ℕ → Speed
-countSpeed count d = choose (eqb count 0) TooFast (choose (eqb count 255) TooSlow (Rpm (nearest perMinute (count * d))))
+countSpeed count d =
+    choose (eqb count 0) TooFast
+    (choose (eqb count 255) TooSlow
+    (Tenths (nearest perTenth (count * d))))
+
+-- what is claimed of every number: v of a count n and a divisor
+pub record IsSpeed (n d v : ℕ) : Type 0 where
+  pub number : countSpeed n d ≡ Tenths v
+  -- nearest to 13,500,000 / (n d), at a half the larger
+  pub above : 2 * perTenth + n * d < 2 * (v + 1) * (n * d)
+  pub below : 2 * v * (n * d) ≤ 2 * perTenth + n * d
+  pub least : 415 ≤ v
+  pub most : v ≤ perTenth
+
+pub record SpeedClaims : Type 0 where
+  pub numbers : (n : ℕ) (d : Divisor) → 0 < n → n < 255 → IsSpeed n (valueOf d) (speedValue (countSpeed n (valueOf d)))
+  -- ten times what planning counts by, and 24 bits hold every number
+  pub unit : perTenth ≡ 10 * perMinute
+  pub bits : perTenth < 2 ^ 24

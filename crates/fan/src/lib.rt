@@ -4,7 +4,7 @@ ghost use Prim.Native.Nat.{_<_, _%_, _^_};
 ghost use Rattle.fan.specs.Count.{exponentOf, valueOf, fromBits, storedOf, overLimit};
 ghost use Rattle.bits.specs.Fields.{placesOf};
 ghost use Rattle.fan.specs.Divisors.{divisorAt, withDivisor, Fields};
-ghost use Rattle.fan.specs.Speed.{countSpeed};
+ghost use Rattle.fan.specs.Speed.{countSpeed, SpeedClaims};
 
 pub mod planner;
 
@@ -13,8 +13,11 @@ use bits::fields::gather;
 use bits::fields::replace;
 use numbers::rounding::rounded;
 
-// What a fan at one turn a minute counts.
+// What a fan at one turn a minute counts: plans are in whole turns.
 pub const PER_MINUTE: u32 = 1350000;
+
+// What a fan at a tenth of that counts: readings are in tenths.
+pub const PER_TENTH: u32 = 13500000;
 
 // The largest count that a byte holds: a stored count stops there.
 const FULL: u8 = 255;
@@ -39,8 +42,8 @@ pub enum Divisor {
 
 // What reading a fan's speed answers.
 pub enum Speed {
-    // Turns a minute.
-    Rpm(u32),
+    // Tenths of a turn a minute.
+    Tenths(u32),
     // The count is 0.
     TooFast,
     // The count is full.
@@ -129,7 +132,8 @@ pub fn rings(count: Divided, limit: u8) -> bool
 impl Divided {
     // The speed that a stored count and the divisor now set say; never refused.
     pub fn speed(self, divisor: Divisor) -> Speed
-        ensures { λ r. ⌜ r ≡ countSpeed (self .0) (valueOf divisor) ⌝ }
+        ensures equation { λ r. ⌜ r ≡ countSpeed (self .0) (valueOf divisor) ⌝ }
+        ensures claims { λ r. ⌜ SpeedClaims ⌝ }
     {
         let count = self.0;
         if count == 0 {
@@ -138,6 +142,6 @@ impl Divided {
         if count == FULL {
             return Speed::TooSlow;
         }
-        Speed::Rpm(rounded(PER_MINUTE, (count as u32) * (divisor.value() as u32)))
+        Speed::Tenths(rounded(PER_TENTH, (count as u32) * (divisor.value() as u32)))
     }
 }

@@ -18,7 +18,7 @@ abbrev pub refusedWord : ℕ → ℕ
 refusedWord answer = topByte (0x80 + answer)
 
 abbrev pub speedWord : Speed → ℕ
-speedWord (speed.Rpm n) = n
+speedWord (speed.Tenths n) = n
 speedWord speed.TooFast = topByte 1
 speedWord speed.TooSlow = topByte 2
 speedWord speed.Refused = refusedWord (speedAnswer speed.Refused)

@@ -29,7 +29,7 @@ pub fn speed_word(speed: Speed) -> u32
     ensures { λ r. ⌜ r ≡ speedWord speed ⌝ }
 {
     match speed {
-        Speed::Rpm(rpm) => rpm,
+        Speed::Tenths(tenths) => tenths,
         Speed::TooFast => TOP_BYTE,
         Speed::TooSlow => 2 * TOP_BYTE,
         Speed::Refused => (REFUSED + NO_CHANNEL as u32) * TOP_BYTE,

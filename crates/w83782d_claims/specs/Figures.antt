@@ -70,7 +70,7 @@ figures =
     ∷ (plan 2641 ⇒ plan-is 2 254)
     ∷ (plan 0 ⇒ no-plan)
     ∷ (plan 1350001 ⇒ no-plan)
-    ∷ (speed 153 2 ⇒ number-is (pos 4412))
+    ∷ (speed 153 2 ⇒ number-is (pos 44118))
     ∷ (volts plus5 186 0 0 ⇒ number-is (pos 5000))
     ∷ (volts plus12 197 0 0 ⇒ number-is (pos 11978))
     ∷ (volts minus12 35 232 56 ⇒ number-is (negℤ (pos 12034)))

@@ -12,7 +12,7 @@ use lib.IntN.{pos}
 use lib.ListN.{getD}
 use Rattle.bits.specs.Bits.{choose, isBeyond}
 use Rattle.numbers.specs.Rounding.{nearest}
-use Rattle.fan.specs.Count.{perMinute, valueOf}
+use Rattle.fan.specs.Count.{valueOf}
 use Rattle.fan.specs.Speed as fan
 use Rattle.fan.specs.declared.Speed.{Speed}
 use Rattle.fan.specs.declared.Speed.the-variants as speed
@@ -35,9 +35,9 @@ use Rattle.w83782d_readings.specs.Claims.{sizedAnswer, answerTo, Reading
 -- ---- speeds: a count's own reading is never refused
 never : (count d : ℕ) → fan.speedAnswer (fan.countSpeed count d) ≡ 0
 unfolding fan.countSpeed
-never count d = go (eqb count 0) (eqb count 255) (nearest perMinute (count * d))
+never count d = go (eqb count 0) (eqb count 255) (nearest fan.perTenth (count * d))
   where
-    go : (s t : Bool) (n : ℕ) → fan.speedAnswer (choose s speed.TooFast (choose t speed.TooSlow (speed.Rpm n))) ≡ 0
+    go : (s t : Bool) (n : ℕ) → fan.speedAnswer (choose s speed.TooFast (choose t speed.TooSlow (speed.Tenths n))) ≡ 0
     go true t n = refl
     go false true n = refl
     go false false n = refl
@@ -122,7 +122,7 @@ refused-voltage reading.Refused e = refl
 refused-voltage reading.WrongLength e = refl
 
 refused-speed : (s : Speed) → fan.speedAnswer s ≢ 0 → fan.speedValue s ≡ 0
-refused-speed (speed.Rpm n) e = absurd (e refl)
+refused-speed (speed.Tenths n) e = absurd (e refl)
 refused-speed speed.TooFast e = refl
 refused-speed speed.TooSlow e = refl
 refused-speed speed.Refused e = refl

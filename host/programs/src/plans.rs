@@ -67,15 +67,15 @@ pub fn plan<W: AsRef<[u8]>>(
     Ok(())
 }
 
-/// The speed is "1,350,000 / count, in hundredths, rounded down" (D-34).
+/// The speed is "13,500,000 / count, in tenths .. rounded down" (D-34).
 fn write_plan(rpm: u32, plan: Plan, out: &mut impl Write) -> io::Result<()> {
     let (divisor, limit, count) = (1 << plan.k, plan.limit, plan.product());
-    let hundredths = 100 * FASTEST / count;
+    let tenths = 10 * FASTEST / count;
     writeln!(
         out,
-        "{rpm} rpm: divisor {divisor}, limit {limit}, rings from count {count}, at {}.{:02} rpm and below",
-        hundredths / 100,
-        hundredths % 100
+        "{rpm} rpm: divisor {divisor}, limit {limit}, rings from count {count}, at {}.{} rpm and below",
+        tenths / 10,
+        tenths % 10
     )
 }
 

@@ -61,7 +61,7 @@ fn pins(asserted: [bool; 3]) -> u32 {
 
 fn wrapped_speed(monitor: &w83782d::Monitor, fan: u8) -> (u32, u32) {
     match monitor.speed(fan) {
-        Ok(w83782d::Speed::Rpm(rpm)) => (0, rpm),
+        Ok(w83782d::Speed::Tenths(tenths)) => (0, tenths),
         Ok(w83782d::Speed::TooFast) => (1, 0),
         Ok(w83782d::Speed::TooSlow) => (2, 0),
         Err(refusal) => (0x80 + u32::from(refusal.number()), 0),
@@ -70,7 +70,7 @@ fn wrapped_speed(monitor: &w83782d::Monitor, fan: u8) -> (u32, u32) {
 
 fn expected_speed(monitor: &Monitor, fan: u8) -> (u32, u32) {
     match monitor.speed(fan) {
-        Speed::Rpm(rpm) => (0, rpm),
+        Speed::Tenths(tenths) => (0, tenths),
         Speed::TooFast => (1, 0),
         Speed::TooSlow => (2, 0),
         Speed::Refused => (0x87, 0),
@@ -207,11 +207,11 @@ fn an_image_of_another_length_shows_nothing() {
     }
 }
 
-/// "Count 153, d 2: 4,412 rpm."
+/// "4,412 in document 01 becomes 44,118."
 #[test]
 fn the_speed_of_the_paper_comes_out() {
     let mut image = power_on();
     image[cell(0, 0x28)..][..3].copy_from_slice(&[153, 0, 255]);
     let speeds = NUMBERS.map(|fan| boundary::speed(&image, fan));
-    assert_eq!(speeds, [(0, 4_412), (1, 0), (2, 0)]);
+    assert_eq!(speeds, [(0, 44_118), (1, 0), (2, 0)]);
 }

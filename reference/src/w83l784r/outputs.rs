@@ -4,7 +4,7 @@ use super::map::cell;
 use super::monitor::{sensor_place, Monitor, STATUS};
 use super::plan::fan_place;
 use super::sample::{FAN_COUNT, OVT_PROPERTY, SMI_PROPERTY};
-use crate::speed::SpeedInTenths;
+use crate::speed::Speed;
 
 const SMI_MASK: [usize; 2] = [cell(0x43), cell(0x44)];
 
@@ -50,10 +50,10 @@ impl Monitor {
 
     /// "Speed of fan 1 or 2: tenths of rpm (C-12) from the stored count and the
     /// divisor now set; another fan answers 7."
-    pub fn speed(&self, fan: u8) -> SpeedInTenths {
+    pub fn speed(&self, fan: u8) -> Speed {
         match fan_place(fan) {
-            Some(place) => SpeedInTenths::of(self.shown(FAN_COUNT + place), self.divisor(place)),
-            None => SpeedInTenths::Refused,
+            Some(place) => Speed::of(self.shown(FAN_COUNT + place), self.divisor(place)),
+            None => Speed::Refused,
         }
     }
 

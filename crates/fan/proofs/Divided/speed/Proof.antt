@@ -3,15 +3,15 @@
 use native.Mathlib.Omega.{arith}
 use borrow.Author.Needs.{needs}
 use Rattle.fan.proofs.Divisors.{product-le}
-use Rattle.fan.proofs.Speeds.{none-counted, all-counted, counted}
+use Rattle.fan.proofs.Speeds.{none-counted, all-counted, counted, speed-claims}
 use Rattle.fan.proofs.Divided.speed.Statement.{statement}
 use Rattle.fan.proofs.Divided.speed.Tie as tie
 
 returns : tie.Need-returns
-returns c = none-counted _ _ (c .if1 .taken)
+returns c = (none-counted _ _ (c .if1 .taken), speed-claims)
 
 returns-2 : tie.Need-returns-2
-returns-2 c = all-counted _ _ (c .before .if1 .left) (c .if2 .taken)
+returns-2 c = (all-counted _ _ (c .before .if1 .left) (c .if2 .taken), speed-claims)
 
 cast-rounded : tie.Need-cast-rounded
 cast-rounded c = search needs
@@ -32,8 +32,10 @@ rounded-requires c κs = search needs
 
 returns-3 : tie.Need-returns-3
 returns-3 c =
-    let t = c .before .before in
-    counted _ _ (t .before .if1 .left) (t .if2 .left) _ _ (c .before .value .ensures) (c .rounded .ensures .0)
+    let t = c .before .before in (
+      counted _ _ (t .before .if1 .left) (t .if2 .left) _ _ (c .before .value .ensures) (c .rounded .ensures .0),
+      speed-claims,
+    )
 
 pub speed-spec : {M : Type 1} → statement M
 speed-spec =

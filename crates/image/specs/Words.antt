@@ -1,8 +1,10 @@
 -- Values packed into one word for C: an answer number in the high bits, what it carries below.
-use Prim.Native.Nat.{ℕ, _+_, _*_, _^_}
+use Prim.Native.Nat.{ℕ, _+_, _*_, _^_, _<_}
 use Rattle.fan.specs.declared.planner.Planned.{Planned}
 use Rattle.fan.specs.Plan.{planAnswer, planDivisor, planLimit}
-use Rattle.fan.specs.Speed.{speedAnswer}
+use Rattle.fan.specs.declared.Divisor.{Divisor}
+use Rattle.fan.specs.Count.{valueOf}
+use Rattle.fan.specs.Speed.{speedAnswer, countSpeed}
 use Rattle.fan.specs.declared.Speed.{Speed}
 use Rattle.fan.specs.declared.Speed.the-variants as speed
 
@@ -23,3 +25,7 @@ speedWord speed.TooFast = topByte 1
 speedWord speed.TooSlow = topByte 2
 speedWord speed.Refused = refusedWord (speedAnswer speed.Refused)
 speedWord speed.WrongLength = refusedWord (speedAnswer speed.WrongLength)
+
+-- what is claimed of a number's word: its top byte is 0, so that it is taken for no other kind
+pub record SpeedWords : Type 0 where
+  pub numbers : (n : ℕ) (d : Divisor) → 0 < n → n < 255 → speedWord (countSpeed n (valueOf d)) < 2 ^ 24

@@ -1,7 +1,7 @@
 // Answers and values as one word each, for C: an answer number in the high bits, what it carries below.
 ghost use mathlib.Core.Path.{_≡_};
 ghost use Rattle.image.specs.Image.{readWord};
-ghost use Rattle.image.specs.Words.{planWord, speedWord};
+ghost use Rattle.image.specs.Words.{planWord, speedWord, SpeedWords};
 use answers::BAD_SPEED;
 use answers::NO_CHANNEL;
 use answers::WRONG_LENGTH;
@@ -26,7 +26,8 @@ pub fn planned(plan: Planned) -> u32
 // A speed: the top byte is 0 for a number, 1 too fast, 2 too slow, 80h + answer when
 // refused; the number is in the low 24 bits.
 pub fn speed_word(speed: Speed) -> u32
-    ensures { λ r. ⌜ r ≡ speedWord speed ⌝ }
+    ensures equation { λ r. ⌜ r ≡ speedWord speed ⌝ }
+    ensures claims { λ r. ⌜ SpeedWords ⌝ }
 {
     match speed {
         Speed::Tenths(tenths) => tenths,

@@ -176,10 +176,11 @@ uint8_t w83782d_sample(uint8_t *image, size_t n, const uint8_t *volts, size_t v,
                        int16_t t2, int16_t t3, uint32_t u1, uint32_t u2, uint32_t u3);
 
 /*
- * Sets the plan of a fan alarm at a speed, as w83782d_plan gives it, on fan 1 to
- * 3: writes that fan's count limit and its three divisor bits, and nothing else,
- * whatever bank is selected and whether or not monitoring is stopped. Stored
- * counts and real-time bits wait for the next sample. From then on an accepted
+ * Sets the plan of a fan alarm at a speed in whole rpm (not the tenths that
+ * w83782d_speed reads), as w83782d_plan gives it, on fan 1 to 3: writes that fan's
+ * count limit and its three divisor bits, and nothing else, whatever bank is
+ * selected and whether or not monitoring is stopped. Stored counts and real-time
+ * bits wait for the next sample. From then on an accepted
  * sample sets the fan's real-time bit exactly when its undivided count is
  * (limit + 1) * divisor or more, until the first of these: a reset by 40h bit 7,
  * an accepted write that gives a bit of that fan's limit or divisor another value
@@ -240,10 +241,10 @@ uint32_t w83782d_temperature(const uint8_t *image, size_t n, uint8_t sensor);
 /* ---- Plans and readings that need no monitor ---- */
 
 /*
- * The plan of a fan alarm at a speed, which rings at that speed and at every slower
- * one: the divisor (1, 2, .. 128) and the count limit (0 to 254) to set. Returns
- * answer * 65536 + divisor * 256 + limit; the answer is 0 or 6 (speed). A refusal
- * gives divisor 0 and limit 0.
+ * The plan of a fan alarm at a speed in whole rpm, which rings at that speed and at
+ * every slower one: the divisor (1, 2, .. 128) and the count limit (0 to 254) to
+ * set. Returns answer * 65536 + divisor * 256 + limit; the answer is 0 or 6 (speed).
+ * A refusal gives divisor 0 and limit 0.
  */
 W83782D_MUST_USE
 uint32_t w83782d_plan(uint32_t rpm);

@@ -149,10 +149,11 @@ impl Monitor {
         refusal::accepted(answer)
     }
 
-    /// Sets the [`plan`] of a fan alarm at a speed on fan 1, 2 or 3: writes that
-    /// fan's count limit and its three divisor bits, and nothing else, whatever
-    /// bank is selected and whether or not monitoring is stopped. Stored counts and
-    /// real-time bits wait for the next sample. [`Refusal::NoChannel`] or
+    /// Sets the [`plan`] of a fan alarm at a speed in whole rpm (not the tenths that
+    /// [`Monitor::speed`] reads) on fan 1, 2 or 3: writes that fan's count limit and
+    /// its three divisor bits, and nothing else, whatever bank is selected and
+    /// whether or not monitoring is stopped. Stored counts and real-time bits wait
+    /// for the next sample. [`Refusal::NoChannel`] or
     /// [`Refusal::BadSpeed`] leaves the monitor as it was.
     ///
     /// From then on an accepted sample sets the fan's real-time bit exactly when
@@ -200,8 +201,8 @@ pub struct Plan {
     pub limit: u8,
 }
 
-/// The plan of a fan alarm at a speed, which rings at that speed and at every
-/// slower one, or [`Refusal::BadSpeed`]. [`Monitor::set_plan`] sets it.
+/// The plan of a fan alarm at a speed in whole rpm, which rings at that speed and at
+/// every slower one, or [`Refusal::BadSpeed`]. [`Monitor::set_plan`] sets it.
 ///
 /// ```
 /// use w83782d::{plan, Plan, Refusal};

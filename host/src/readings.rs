@@ -44,7 +44,8 @@ impl Monitor {
         }
     }
 
-    /// The speed of fan 1, 2 or 3; any other is [`Refusal::NoChannel`].
+    /// The speed of fan 1, 2 or 3 in tenths of rpm; any other is
+    /// [`Refusal::NoChannel`].
     pub fn speed(&self, fan: u8) -> Result<Speed, Refusal> {
         // SAFETY: pointer and length are those of the image, which is lent for the call.
         let word = unsafe { raw::w83782d_speed(self.image.as_ptr(), IMAGE_SIZE, fan) };

@@ -35,6 +35,9 @@ static_assert(W83782D_OUTPUTS_OVT_3(0x04) && !W83782D_OUTPUTS_OVT_3(0x03), "outp
 static_assert(W83782D_SPEED_KIND(0x0000AC56) == W83782D_NUMBER, "speed, kind");
 static_assert(W83782D_SPEED_TENTHS(0x0000AC56) == 44118, "speed, tenths of rpm");
 static_assert(W83782D_SPEED_ANSWER(0x0000AC56) == W83782D_ACCEPTED, "speed, answer");
+static_assert(W83782D_SPEED_KIND(0x00CDFE60) == W83782D_NUMBER, "largest speed, kind");
+static_assert(W83782D_SPEED_TENTHS(0x00CDFE60) == 13500000, "largest speed, tenths of rpm");
+static_assert(W83782D_SPEED_ANSWER(0x00CDFE60) == W83782D_ACCEPTED, "largest speed, answer");
 static_assert(W83782D_SPEED_KIND(0x01000000) == W83782D_TOO_FAST, "speed, kind");
 static_assert(W83782D_SPEED_KIND(0x02000000) == W83782D_TOO_SLOW, "speed, kind");
 static_assert(W83782D_SPEED_ANSWER(0x02000000) == W83782D_ACCEPTED, "speed, answer");

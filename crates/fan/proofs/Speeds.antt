@@ -1,4 +1,5 @@
--- The three cases of a speed, and what holds of every number.
+-- The three cases of a speed, and what holds of every number: it is within a half of 13,500,000 / n, and n is 1 to
+-- 254 x 128 = 32,512.
 -- Assumes nothing.
 use Prim.Native.Nat.{ℕ, _+_, _*_, _≤_, _<_}
 use native.Mathlib.Nat.{mul-le-mul, mul-le-mul-right, mul-pos}
@@ -10,7 +11,7 @@ use lib.Dec.{leb, lit<}
 use Rattle.fan.specs.declared.Speed.the-variants.{Tenths, TooFast, TooSlow}
 use Rattle.fan.specs.declared.Divisor.{Divisor}
 use Rattle.fan.specs.Count.{valueOf}
-use Rattle.numbers.specs.Rounding.{nearest}
+use Rattle.numbers.specs.Rounding.{nearest, IsNearest}
 use Rattle.numbers.proofs.rounding.Quotients.{nearest-holds}
 use Rattle.fan.specs.Speed.{perTenth, speedValue, countSpeed, IsSpeed, SpeedClaims}
 use Rattle.fan.proofs.Divisors.{value-pos, value-le}
@@ -33,8 +34,7 @@ module _ (count d : ℕ) where
 -- ---- every number
 
 -- v is the nearest to 13,500,000 / n
-module _ (n v : ℕ) (some : 0 < n) (above : 2 * perTenth + n < 2 * (v + 1) * n)
-    (below : 2 * v * n ≤ 2 * perTenth + n) where
+module _ (n v : ℕ) (some : 0 < n) (is : IsNearest perTenth n v) where
   at-least : n ≤ 32512 → 415 ≤ v
   at-least h = by (leb 415 v) refl
     where
@@ -42,7 +42,7 @@ module _ (n v : ℕ) (some : 0 < n) (above : 2 * perTenth + n < 2 * (v + 1) * n)
       by true e = leb-true 415 v e
       by false e =
           let few : 2 * (v + 1) ≤ 830 = omega (arith, leb-false 415 v e) in
-          absurd (omega (arith, mul-le-mul-right n few))
+          absurd (omega (arith, is .below, mul-le-mul-right n few))
 
   at-most : v ≤ perTenth
   at-most = by (leb v perTenth) refl
@@ -51,7 +51,7 @@ module _ (n v : ℕ) (some : 0 < n) (above : 2 * perTenth + n < 2 * (v + 1) * n)
       by true e = leb-true v perTenth e
       by false e =
           let many : 27000002 ≤ 2 * v = omega (arith, leb-false v perTenth e) in
-          absurd (omega (arith, mul-le-mul-right n many))
+          absurd (omega (arith, is .at-least, mul-le-mul-right n many))
 
 is-speed : (n : ℕ) (d : Divisor) → 0 < n → n < 255
     → IsSpeed n (valueOf d) (speedValue (countSpeed n (valueOf d)))
@@ -61,15 +61,13 @@ is-speed n d h k =
     let not-255 : n ≡ 255 → ⊥ = λ e. omega arith in
     let some : 0 < n * valueOf d = mul-pos h (value-pos d) in
     let few : n * valueOf d ≤ 32512 = mul-le-mul {n₂ = 254} {m₂ = 128} (omega arith) (value-le d) in
-    let over = nearest-holds .below perTenth (n * valueOf d) some in
-    let under = nearest-holds .at-least perTenth (n * valueOf d) some in
+    let is = nearest-holds perTenth (n * valueOf d) some in
     simp (ne-eqb _ _ not-0, ne-eqb _ _ not-255)
     (record {
       number = simp (ne-eqb _ _ not-0, ne-eqb _ _ not-255);
-      above = over;
-      below = under;
-      least = at-least _ _ some over under few;
-      most = at-most _ _ some over under;
+      nearest = is;
+      least = at-least _ _ some is few;
+      most = at-most _ _ some is;
     })
 
 pub speed-claims : SpeedClaims

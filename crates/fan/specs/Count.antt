@@ -9,7 +9,7 @@ use Rattle.bits.specs.Bits.{choose}
 use Rattle.fan.specs.declared.Divisor.{Divisor}
 use Rattle.fan.specs.declared.Divisor.the-variants.{By1, By2, By4, By8, By16, By32, By64, By128}
 
--- what a fan at one turn a minute counts: the 1,350,000 of every rule on fans
+-- what a fan at one turn a minute counts: the 1,350,000 of counts and plans; readings are in tenths (`perTenth`)
 abbrev pub perMinute : ℕ
 perMinute = 1350000
 

@@ -1,10 +1,10 @@
 -- The speed reading (rule R-2), in tenths of rpm.
-use Prim.Native.Nat.{ℕ, _+_, _*_, _^_, _≤_, _<_}
+use Prim.Native.Nat.{ℕ, _*_, _^_, _≤_, _<_}
 use mathlib.Core.Path.{_≡_}
 use lib.Dec.{eqb}
 use Rattle.answers.specs.Answers as answers
 use Rattle.bits.specs.Bits.{choose}
-use Rattle.numbers.specs.Rounding.{nearest}
+use Rattle.numbers.specs.Rounding.{nearest, IsNearest}
 use Rattle.fan.specs.declared.Speed.{Speed}
 use Rattle.fan.specs.declared.Speed.the-variants.{Tenths, TooFast, TooSlow, Refused, WrongLength}
 use Rattle.fan.specs.declared.Divisor.{Divisor}
@@ -26,7 +26,7 @@ speedValue TooSlow = 0
 speedValue Refused = 0
 speedValue WrongLength = 0
 
--- what a fan at one tenth of a turn a minute counts: the unit of a reading, and of nothing else
+-- what a fan at one tenth of a turn a minute counts: speeds are read and shown in tenths, and planned in whole rpm
 abbrev pub perTenth : ℕ
 perTenth = 13500000
 
@@ -40,9 +40,7 @@ countSpeed count d =
 -- what is claimed of every number: v of a count n and a divisor
 pub record IsSpeed (n d v : ℕ) : Type 0 where
   pub number : countSpeed n d ≡ Tenths v
-  -- nearest to 13,500,000 / (n d), at a half the larger
-  pub above : 2 * perTenth + n * d < 2 * (v + 1) * (n * d)
-  pub below : 2 * v * (n * d) ≤ 2 * perTenth + n * d
+  pub nearest : IsNearest perTenth (n * d) v
   pub least : 415 ≤ v
   pub most : v ≤ perTenth
 

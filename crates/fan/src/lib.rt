@@ -13,10 +13,10 @@ use bits::fields::gather;
 use bits::fields::replace;
 use numbers::rounding::rounded;
 
-// What a fan at one turn a minute counts: plans are in whole turns.
+// What a fan at one turn a minute counts: plans are in whole rpm.
 pub const PER_MINUTE: u32 = 1350000;
 
-// What a fan at a tenth of that counts: readings are in tenths.
+// What a fan at a tenth of a turn a minute counts: readings are in tenths of rpm.
 pub const PER_TENTH: u32 = 13500000;
 
 // The largest count that a byte holds: a stored count stops there.

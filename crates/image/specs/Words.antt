@@ -26,6 +26,6 @@ speedWord speed.TooSlow = topByte 2
 speedWord speed.Refused = refusedWord (speedAnswer speed.Refused)
 speedWord speed.WrongLength = refusedWord (speedAnswer speed.WrongLength)
 
--- what is claimed of a number's word: its top byte is 0, so that it is taken for no other kind
+-- what is claimed of a number's word: it is below every other kind's
 pub record SpeedWords : Type 0 where
-  pub numbers : (n : ℕ) (d : Divisor) → 0 < n → n < 255 → speedWord (countSpeed n (valueOf d)) < 2 ^ 24
+  pub numbers : (n : ℕ) (d : Divisor) → 0 < n → n < 255 → speedWord (countSpeed n (valueOf d)) < topByte 1

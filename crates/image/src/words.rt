@@ -24,7 +24,7 @@ pub fn planned(plan: Planned) -> u32
 }
 
 // A speed: the top byte is 0 for a number, 1 too fast, 2 too slow, 80h + answer when
-// refused; the number is in the low 24 bits.
+// refused; the number, tenths of rpm, is in the low 24 bits.
 pub fn speed_word(speed: Speed) -> u32
     ensures equation { λ r. ⌜ r ≡ speedWord speed ⌝ }
     ensures claims { λ r. ⌜ SpeedWords ⌝ }

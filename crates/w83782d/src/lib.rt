@@ -206,7 +206,8 @@ impl Monitor {
         w83782d_readings::voltage(&registers, channel, r5, r6)
     }
 
-    // The speed of a fan, 1 to 3, by its stored count and the divisor now set; any other is refused as 7.
+    // The speed of a fan, 1 to 3, in tenths of rpm, by its stored count and the divisor now set; any other is refused
+    // as 7.
     pub fn speed(self, fan: u8) -> Speed
         ensures { λ r. ⌜ r ≡ speedOf (self .registers) fan ⌝ }
     {

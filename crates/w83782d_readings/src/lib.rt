@@ -57,7 +57,7 @@ pub fn voltage(s: &[u8], channel: u8, r5: u32, r6: u32) -> Reading
     millivolts(channel, cell(s, VCOREA + channel as usize), r5, r6)
 }
 
-// The speed of a fan, 1 to 3, by its stored count and the divisor now set.
+// The speed of a fan, 1 to 3, in tenths of rpm, by its stored count and the divisor now set.
 pub fn speed(s: &[u8], fan: u8) -> Speed
     ensures equation { λ r. ⌜ r ≡ speedOf (now (s .entry)) fan ⌝ }
     ensures claims { λ r. ⌜ ReadingClaims ⌝ }

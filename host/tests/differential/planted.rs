@@ -316,8 +316,24 @@ fn count_255_a_number(image: &Image) -> Looks {
     let mut looks = looks::library(image);
     for speed in &mut looks.speeds {
         if *speed == (2, 0) {
-            *speed = (0, 1_350_000 / 255);
+            *speed = (0, 13_500_000 / 255);
         }
+    }
+    looks
+}
+
+fn speed_in_whole_rpm(image: &Image) -> Looks {
+    let mut looks = looks::library(image);
+    for (_, tenths) in &mut looks.speeds {
+        *tenths /= 10;
+    }
+    looks
+}
+
+fn ten_times_the_rounded_rpm(image: &Image) -> Looks {
+    let mut looks = looks::library(image);
+    for (_, tenths) in &mut looks.speeds {
+        *tenths = (*tenths + 5) / 10 * 10;
     }
     looks
 }
@@ -375,10 +391,12 @@ fn every_planted_fault_is_found() {
     for (name, call) in faults {
         assert!(is_found(faulty(call)), "{name}");
     }
-    let faults: [(&str, Look); 4] = [
+    let faults: [(&str, Look); 6] = [
         ("smi_dropped_by_stop", smi_dropped_by_stop),
         ("chassis_no_alarm", chassis_no_alarm),
         ("count_255_a_number", count_255_a_number),
+        ("speed_in_whole_rpm", speed_in_whole_rpm),
+        ("ten_times_the_rounded_rpm", ten_times_the_rounded_rpm),
         ("half_degree_lost", half_degree_lost),
     ];
     for (name, looks) in faults {

@@ -17,7 +17,7 @@ pub(super) const DIVISOR_TOP: [(usize, u32); 3] =
     [(cell(0, 0x5D), 5), (cell(0, 0x5D), 6), (cell(0, 0x5D), 7)];
 
 impl Monitor {
-    /// "Speed takes the stored count and the divisor now set."
+    /// "Speed takes the stored count and the divisor now set", in tenths of rpm (C-12).
     pub fn speed(&self, fan: u8) -> Speed {
         // "Fan not 1 to 3."
         let Some(fan) = place(fan) else {

@@ -1,4 +1,4 @@
--- A number's word: below 2^24, as the number is.
+-- A number's word: below 2^24, where the kind begins, as the number is.
 -- Assumes nothing.
 use Prim.Native.Nat.{ℕ, _<_}
 use native.Mathlib.Omega.{arith}

@@ -14,12 +14,12 @@ doubled q d = ap (λ (x : ℕ). x * d) (mul-comm 2 q) ∙ mul-assoc q 2 d
 
 pub nearest-holds : Nearest
 unfolding nearest
-nearest-holds =
+nearest-holds n d h =
     record {
-      below = λ n d h.
+      below =
           subst (λ (x : ℕ). 2 * n + d < x) (mul-comm (2 * d) (nearest n d + 1) ∙ sym (doubled (nearest n d + 1) d))
           (lt-mul-div-succ (2 * n + d) {b = 2 * d} (omega arith));
-      at-least = λ n d h. rw doubled (div-mul-le-self (2 * n + d) (2 * d));
+      at-least = rw doubled (div-mul-le-self (2 * n + d) (2 * d));
     }
 
 pub nearest-le : (n d : ℕ) → nearest n d ≤ 2 * n + d

@@ -3,6 +3,7 @@
 use crate::common::rng::Rng;
 use crate::program::{hold_text, plan, top};
 use programs::{searched_plan, LONGEST};
+use reference::u_of_speed;
 use std::ffi::OsStr;
 use std::fs;
 use std::os::unix::ffi::OsStrExt;
@@ -60,8 +61,7 @@ fn the_papers_figures_are_planned() {
 
 /// 1,350,000 / w rounded down decides: each of its numbers, at the slowest and the
 /// fastest speed that gives it.
-#[test]
-fn every_allowed_count_is_planned_alike() {
+fn speeds_of_every_count() -> Vec<u64> {
     let mut speeds = Vec::new();
     let mut slowest = 1;
     while slowest <= FASTEST {
@@ -70,7 +70,36 @@ fn every_allowed_count_is_planned_alike() {
         slowest = fastest + 1;
     }
     assert!(speeds.len() > 4_000);
-    hold_speeds(speeds, "every count");
+    speeds
+}
+
+#[test]
+fn every_allowed_count_is_planned_alike() {
+    hold_speeds(speeds_of_every_count(), "every count");
+}
+
+/// "Rings from count N, at X.Y rpm and below": at that speed the alarm rings, and a
+/// tenth above it does not.
+#[test]
+fn the_printed_speed_is_the_last_tenth_that_rings() {
+    for some in speeds_of_every_count().chunks(500) {
+        let words: Vec<String> = some.iter().map(u64::to_string).collect();
+        let output = String::from_utf8(plan(&words).stdout).expect("text");
+        assert_eq!(output.lines().count(), some.len());
+        for line in output.lines() {
+            let (_, rings) = line.split_once("rings from count ").expect(line);
+            let (count, speed) = rings.split_once(", at ").expect(line);
+            let (whole, tenth) = speed
+                .strip_suffix(" rpm and below")
+                .and_then(|speed| speed.split_once('.'))
+                .expect(line);
+            assert_eq!(tenth.len(), 1, "{line}");
+            let tenths: u64 = format!("{whole}{tenth}").parse().expect(line);
+            let count: u32 = count.parse().expect(line);
+            assert!(u_of_speed(tenths, 10) >= count, "{line}");
+            assert!(u_of_speed(tenths + 1, 10) < count, "{line}");
+        }
+    }
 }
 
 #[test]

@@ -1,3 +1,5 @@
+-- Each case is its line of `speedWord`; the claim is `speed-words`.
+-- Assumes nothing.
 use borrow.Author.Needs.{needs}
 use Rattle.image.proofs.words.Speeds.{speed-words}
 use Rattle.image.proofs.words.speed_word.Statement.{statement}

@@ -89,8 +89,9 @@
 #define W83782D_OUTPUTS_OVT_2(word) ((uint8_t)(((word) >> 1) & 1))
 #define W83782D_OUTPUTS_OVT_3(word) ((uint8_t)(((word) >> 2) & 1))
 
-/* Of w83782d_speed: the kind in the top byte, the tenths of rpm of a number below it. Any
- * other kind is a refusal, 80h + answer; the answer is 0 where there is none. */
+/* Of w83782d_speed: the kind in the top byte, the tenths of rpm of a number below
+ * it. Any other kind is a refusal, 80h + answer; the answer is 0 where there is
+ * none. */
 #define W83782D_SPEED_KIND(word) ((uint8_t)((word) >> 24))
 #define W83782D_SPEED_ANSWER(word) ((uint8_t)((word) >> 31 ? ((word) >> 24) & 0x7F : 0))
 #define W83782D_SPEED_TENTHS(word) ((uint32_t)((word) & 0xFFFFFF))
@@ -180,13 +181,12 @@ uint8_t w83782d_sample(uint8_t *image, size_t n, const uint8_t *volts, size_t v,
  * w83782d_speed reads), as w83782d_plan gives it, on fan 1 to 3: writes that fan's
  * count limit and its three divisor bits, and nothing else, whatever bank is
  * selected and whether or not monitoring is stopped. Stored counts and real-time
- * bits wait for the next sample. From then on an accepted
- * sample sets the fan's real-time bit exactly when its undivided count is
- * (limit + 1) * divisor or more, until the first of these: a reset by 40h bit 7,
- * an accepted write that gives a bit of that fan's limit or divisor another value
- * (either may come in a record too), the next accepted plan on that fan,
- * w83782d_power_on. Answers 0, 8 (n), 7 (fan) or 6 (speed); a refusal leaves every
- * byte of the image and the plan that was in force.
+ * bits wait for the next sample. From then on an accepted sample sets the fan's
+ * real-time bit exactly when its undivided count is (limit + 1) * divisor or more,
+ * until the first of these: a reset by 40h bit 7, an accepted write that gives a bit
+ * of that fan's limit or divisor another value (either may come in a record too),
+ * the next accepted plan on that fan, w83782d_power_on. Answers 0, 8 (n), 7 (fan) or
+ * 6 (speed); a refusal leaves every byte of the image and the plan that was in force.
  */
 W83782D_MUST_USE
 uint8_t w83782d_set_plan(uint8_t *image, size_t n, uint8_t fan, uint32_t rpm);

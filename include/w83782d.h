@@ -213,10 +213,11 @@ uint64_t w83782d_replay(uint8_t *image, size_t n, const uint8_t *log, size_t m);
 /* ---- Outputs and readings of a monitor ---- */
 
 /*
- * Standing alarms, the count of set bits in 41h and 42h, and the outputs SMI and
- * OVT of sensors 2 and 3. Returns answer * 65536 + standing alarms * 256 + bit 0
- * SMI, bit 1 OVT of sensor 2, bit 2 OVT of sensor 3; the answer is 0 or 8 (n). A
- * refusal gives 0 alarms and no output asserted: look at the answer first.
+ * Standing alarms, which are the bits of 41h and 42h that a read shows as 1, masked
+ * or not (0 to 14), and the outputs SMI and OVT of sensors 2 and 3. Returns
+ * answer * 65536 + standing alarms * 256 + bit 0 SMI, bit 1 OVT of sensor 2, bit 2
+ * OVT of sensor 3; the answer is 0 or 8 (n). A refusal gives 0 alarms and no output
+ * asserted: look at the answer first.
  */
 W83782D_MUST_USE
 uint32_t w83782d_outputs(const uint8_t *image, size_t n);

@@ -7,7 +7,7 @@ use crate::{Monitor, IMAGE_SIZE};
 /// Alarms and output pins.
 #[derive(Clone, Copy, Debug, PartialEq, Eq)]
 pub struct Outputs {
-    /// Set bits of 41h and 42h.
+    /// The bits of 41h and 42h that a read shows as 1, masked or not: 0 to 14.
     pub standing_alarms: u8,
     /// SMI is asserted.
     pub smi: bool,

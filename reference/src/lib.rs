@@ -13,12 +13,13 @@
 //!
 //! Each chip is a module: its registers, its state and what its calls do. Beside
 //! them are the rules that the chips of the family share: plans, plans in force,
-//! speed, the steps of a temperature sensor, answer numbers.
+//! speed, the steps of a temperature sensor, standing alarms, answer numbers.
 
 mod in_force;
 mod plan;
 mod sensor;
 mod speed;
+mod status;
 pub mod w83782d;
 pub mod w83l784r;
 

@@ -3,18 +3,19 @@
 use mathlib.Core.Path.{_≡_, refl, ap, sym, _∙_}
 use mathlib.Core.Bool.{Bool, true, false, not, _||_, true≢false}
 use mathlib.Core.Logic.{_≢_}
-use Prim.Native.Nat.{ℕ, zero, suc, _+_, _-_, _^_, _<_, _≤_, min, max}
+use Prim.Native.Nat.{ℕ, zero, suc, _+_, _-_, _/_, _%_, _^_, _<_, _≤_, min, max}
 use native.Mathlib.Decide.{ℕ-discrete}
+use native.Mathlib.Nat.{pow-succ'}
 use native.Mathlib.Omega.{arith}
-use borrow.Author.Tests.{ne-eqb, eqb-false, not-true}
+use borrow.Author.Tests.{eq-eqb, ne-eqb, eqb-true, eqb-false, not-true}
 use lib.Bits.{bitOr, and-le-r, or-lt}
-use lib.Count.{ones, ones-le}
+use lib.Count.{onesIn, ones, ones-step, ones-le}
 use lib.Dec.{T, eqb, ltb, ltb→lt}
-use Rattle.bits.specs.Bits.{bit, isOn, choose}
+use Rattle.bits.specs.Bits.{bit, isOn, flagOf, choose}
 use Rattle.bits.proofs.BitLaws.{bit-lt, bit-none, bit-on, and-bit, or-bit}
-use Rattle.bits.proofs.Every.{every-at, same-below2, both, both-left, both-right}
+use Rattle.bits.proofs.Every.{every-at, same-below, same-below2, both, both-left, both-right}
 use Rattle.status.specs.Status.{unmasked}
-use Rattle.status.specs.Claims.{UnmaskedBit, AnyUnmaskedExactly}
+use Rattle.status.specs.Claims.{UnmaskedBit, AnyUnmaskedExactly, setBits, CountsSetBits}
 use Rattle.status.specs.Claims.UnmaskedBit.{inFirst, inSecond}
 
 -- ---- a byte that is not 0 has a bit set
@@ -121,3 +122,45 @@ count-few x z h k = omega (arith, ones-le 8 x h, ones-le 8 z k)
 
 pub count-fits : (x z : ℕ) → x < 2 ^ 8 → z < 2 ^ 8 → ones x + ones z < 2 ^ 32
 count-fits x z h k = omega (arith, count-few x z h k)
+
+-- by its digits, from the lowest up
+ones-zero : ones 0 ≡ 0
+unfolding ones onesIn
+ones-zero = refl
+
+by-digits : (k n : ℕ) → n < 2 ^ k → ones n ≡ onesIn k n
+unfolding onesIn
+by-digits zero n h = let e : n ≡ 0 = omega arith in rw e ones-zero
+by-digits (suc k) n h =
+    let half : n / 2 < 2 ^ k = omega (arith, pow-succ' 2 k) in
+    ones-step n ∙ ap (λ (x : ℕ). n % 2 + x) (by-digits k (n / 2) half)
+
+-- of a byte, as computed tests
+ones-each : (x : ℕ) → x < 256 → ones x ≡ setBits x
+unfolding onesIn bit
+ones-each x h = by-digits 8 x h ∙ same-below 256 (onesIn 8) setBits tt x h
+
+ones-none : (x : ℕ) → x < 256 → flagOf (eqb (ones x) 0) ≡ flagOf (eqb x 0)
+unfolding onesIn
+ones-none x h =
+    ap (λ (n : ℕ). flagOf (eqb n 0)) (by-digits 8 x h)
+    ∙ same-below 256 (λ y. flagOf (eqb (onesIn 8 y) 0)) (λ y. flagOf (eqb y 0)) tt x h
+
+none-set : (x : ℕ) → x < 256 → ones x ≡ 0 → x ≡ 0
+none-set x h e = go (eqb x 0) refl
+  where
+    go : (b : Bool) → eqb x 0 ≡ b → x ≡ 0
+    go true t = eqb-true x 0 t
+    go false t =
+        let one : flagOf (eqb (ones x) 0) ≡ 1 = rw (eq-eqb (ones x) 0 e) refl in
+        let zero : flagOf (eqb x 0) ≡ 0 = rw t refl in
+        absurd (omega (arith, one, zero, ones-none x h))
+
+pub counts-set-bits : CountsSetBits
+counts-set-bits =
+    record {
+      each = λ a b h k. rw (ones-each a h, ones-each b k) refl;
+      none =
+          λ a b h k.
+          ((λ e. (none-set a h (omega arith), none-set b k (omega arith))), (λ z. rw (z .0, z .1, ones-zero) refl));
+    }

@@ -2,9 +2,9 @@
 use mathlib.Core.Path.{_≡_}
 use mathlib.Core.Bool.{true}
 use mathlib.Core.Logic.{_↔_}
-use Prim.Native.Nat.{ℕ, _<_}
+use Prim.Native.Nat.{ℕ, _+_, _<_}
 use Rattle.bits.specs.Bits.{bit}
-use Rattle.status.specs.Status.{anyUnmasked}
+use Rattle.status.specs.Status.{anyUnmasked, alarmCount}
 
 -- a bit of the first or of the second status byte that is set and not masked
 pub data UnmaskedBit (s1 m1 s2 m2 : ℕ) : Type 0 where
@@ -15,3 +15,13 @@ pub data UnmaskedBit (s1 m1 s2 m2 : ℕ) : Type 0 where
 abbrev pub AnyUnmaskedExactly : Type 0
 AnyUnmaskedExactly =
     (s1 m1 s2 m2 : ℕ) → m1 < 256 → m2 < 256 → (anyUnmasked s1 m1 s2 m2 ≡ true) ↔ UnmaskedBit s1 m1 s2 m2
+
+-- ---- the count, bit by bit
+
+abbrev pub setBits : ℕ → ℕ
+setBits s = bit s 0 + (bit s 1 + (bit s 2 + (bit s 3 + (bit s 4 + (bit s 5 + (bit s 6 + bit s 7))))))
+
+-- each set bit of either byte counts one, and nothing else does
+pub record CountsSetBits : Type 0 where
+  pub each : (s1 s2 : ℕ) → s1 < 256 → s2 < 256 → alarmCount s1 s2 ≡ setBits s1 + setBits s2
+  pub none : (s1 s2 : ℕ) → s1 < 256 → s2 < 256 → (alarmCount s1 s2 ≡ 0) ↔ ((s1 ≡ 0) × (s2 ≡ 0))

@@ -3,6 +3,7 @@
 ghost use mathlib.Core.Path.{_≡_};
 ghost use Prim.Native.Nat.{_≤_};
 ghost use Rattle.status.specs.Status.{anyUnmasked, alarmCount};
+ghost use Rattle.status.specs.Claims.{CountsSetBits};
 
 // Bits of two status bytes.
 pub struct StatusBits {
@@ -21,6 +22,7 @@ pub fn any_unmasked(first: u8, first_mask: u8, second: u8, second_mask: u8) -> b
 pub fn alarm_count(first: u8, second: u8) -> u32
     ensures count { λ r. ⌜ r ≡ alarmCount first second ⌝ }
     ensures few { λ r. ⌜ r ≤ 16 ⌝ }
+    ensures claims { λ r. ⌜ CountsSetBits ⌝ }
 {
     u8::count_ones(first) + u8::count_ones(second)
 }

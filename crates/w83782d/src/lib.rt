@@ -8,7 +8,7 @@ ghost use Rattle.w83782d_claims.specs.Alarm.{AlarmRings, SetsAlarm, SampleRings
 ghost use Rattle.w83782d_events.specs.Events.{EventCalls};
 ghost use Rattle.w83782d_events.specs.Latched.{StatusClaims};
 ghost use Rattle.w83782d_latches.specs.Ovt.{ovtOf};
-ghost use Rattle.w83782d_readings.specs.Outputs.{smiOf, standingAlarms};
+ghost use Rattle.w83782d_readings.specs.Outputs.{smiOf, standingAlarms, AlarmsCounted};
 ghost use Rattle.w83782d_readings.specs.Readings.{voltageOf, speedOf, temperatureOf, dutyOf};
 ghost use Rattle.w83782d_bus.specs.Bus.{state, written, read};
 ghost use Rattle.w83782d.specs.Monitor.{stateOf, answered, shown};
@@ -179,7 +179,8 @@ impl Monitor {
 
     // The number of standing alarms.
     pub fn standing_alarms(self) -> u32
-        ensures { λ r. ⌜ r ≡ standingAlarms (self .registers) (self .latches .chassis) ⌝ }
+        ensures equation { λ r. ⌜ r ≡ standingAlarms (self .registers) (self .latches .chassis) ⌝ }
+        ensures claims { λ r. ⌜ AlarmsCounted ⌝ }
     {
         let registers = self.registers;
         let latches = self.latches;

@@ -2,7 +2,7 @@
 // A look at the registers' slice that changes nothing; a slice that is not of 112 cells is refused as 8.
 ghost use mathlib.Core.Path.{_≡_};
 ghost use Prim.Native.Nat.{_≤_};
-ghost use Rattle.w83782d_readings.specs.Outputs.{smiOf, standingAlarms, outputsOf};
+ghost use Rattle.w83782d_readings.specs.Outputs.{smiOf, standingAlarms, outputsOf, AlarmsCounted};
 use bits::Bit;
 use bits::cell;
 use bits::is_on;
@@ -52,7 +52,8 @@ fn standing_alarms(s: &[u8], chassis: bool) -> u32
 
 // SMI and the number of standing alarms; a slice that is not of 112 cells is refused as 8.
 pub fn outputs_of(s: &[u8], chassis: bool) -> Outputs
-    ensures { λ r. ⌜ r ≡ outputsOf (now (s .entry)) chassis ⌝ }
+    ensures equation { λ r. ⌜ r ≡ outputsOf (now (s .entry)) chassis ⌝ }
+    ensures claims { λ r. ⌜ AlarmsCounted ⌝ }
 {
     if s.len() != CELLS {
         return Outputs::WrongLength;

@@ -191,7 +191,7 @@ impl Answer for (u8, u8) {
     }
 }
 
-/// The library's word of a plan.
+/// The library's word of a plan or of the outputs.
 impl Answer for u32 {
     fn parts(&self) -> (u8, u64) {
         ((self >> 16) as u8, u64::from(self & 0xFFFF))
@@ -201,6 +201,17 @@ impl Answer for u32 {
 impl Answer for (u8, u32, u8) {
     fn parts(&self) -> (u8, u64) {
         (self.0, u64::from(self.1) << 8 | u64::from(self.2))
+    }
+}
+
+/// Alarms, and the bits SMI, OVT of sensor 2, OVT of sensor 3.
+impl Answer for (u32, bool, bool, bool) {
+    fn parts(&self) -> (u8, u64) {
+        let bits = [self.1, self.2, self.3].map(u64::from);
+        (
+            0,
+            u64::from(self.0) << 8 | bits[2] << 2 | bits[1] << 1 | bits[0],
+        )
     }
 }
 

@@ -179,6 +179,17 @@ pub fn any_sample(rng: &mut Rng) -> Sample {
     }
 }
 
+// ---- Status
+
+/// 41h and 42h: mostly no alarm, else one.
+pub fn usual_status(rng: &mut Rng) -> [u8; 2] {
+    match rng.below(8) {
+        0 => [1 << rng.below(8), 0],
+        1 => [0, 1 << rng.below(6)],
+        _ => [0, 0],
+    }
+}
+
 // ---- Speeds
 
 pub fn usual_speed(rng: &mut Rng) -> u32 {

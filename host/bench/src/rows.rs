@@ -98,6 +98,14 @@ pub fn rows(size: Size) -> Vec<Row> {
             (0..part).map(|_| inputs::any_number(rng)).collect(),
         ),
         plan_by_search((0..part).map(|_| inputs::usual_speed(rng)).collect()),
+        outputs(
+            Mix::Usual("outputs, usual"),
+            runs(&usual, size, |_| inputs::usual_status(rng)),
+        ),
+        outputs(
+            Mix::Any("outputs, any"),
+            runs(&any, size, |_| [rng.byte(), rng.byte()]),
+        ),
         replay("replay, usual day", &days.usual),
         replay("replay, any day", &days.any),
         report("report, usual day", "replay, usual day", &days.usual),
@@ -216,6 +224,44 @@ fn sample(mix: Mix, runs: Vec<MonitorRun<Sample>>) -> Row {
             )
         },
         second,
+    )
+}
+
+/// What a host asks after every event: alarms, SMI and OVT, with status bytes of its own
+/// each time. Storing these is part of both columns.
+fn outputs(mix: Mix, runs: Vec<MonitorRun<[u8; 2]>>) -> Row {
+    type Library = unsafe extern "C" fn(*const u8, usize) -> u32;
+    let library = black_box(raw::w83782d_outputs as Library);
+    let second = black_box(all_outputs as fn(&Monitor) -> Outputs);
+    row(
+        mix.about("Monitor::standing_alarms, smi, ovt"),
+        runs,
+        // SAFETY: pointer and length are those of the image.
+        move |image, &[first, second]| unsafe {
+            image[STATUS] = first;
+            image[STATUS + 1] = second;
+            library(image.as_ptr(), IMAGE_SIZE)
+        },
+        move |monitor, &[first, other]| {
+            monitor.registers[STATUS] = first;
+            monitor.registers[STATUS + 1] = other;
+            second(monitor)
+        },
+    )
+}
+
+/// 41h, before 42h.
+const STATUS: usize = cell(0, 0x41);
+
+/// Alarms, SMI, OVT of sensors 2 and 3.
+type Outputs = (u32, bool, bool, bool);
+
+fn all_outputs(monitor: &Monitor) -> Outputs {
+    (
+        monitor.standing_alarms(),
+        monitor.smi(),
+        monitor.ovt(2),
+        monitor.ovt(3),
     )
 }
 

@@ -138,6 +138,27 @@ fn every_stored_temperature_is_the_same() {
     }
 }
 
+/// Every pair of status bytes, the chassis latch set and not: each bit that a read
+/// shows as 1 is an alarm.
+#[test]
+fn every_pair_of_status_bytes_counts_the_same_alarms() {
+    let mut image = power_on();
+    for first in 0..=255 {
+        for second in 0..=255 {
+            for chassis in [0, 1] {
+                image[cell(0, 0x41)] = first;
+                image[cell(0, 0x42)] = second;
+                image[CHASSIS] = chassis;
+                assert_eq!(
+                    boundary::outputs(&image).1,
+                    state_in(&image).standing_alarms(),
+                    "41h {first:02X}h, 42h {second:02X}h, chassis {chassis}"
+                );
+            }
+        }
+    }
+}
+
 /// Every status byte under every mask byte, SMI enabled or not, with and without
 /// the chassis latch.
 #[test]

@@ -4,6 +4,7 @@ use super::map::cell;
 use super::monitor::{Monitor, CONFIGURATION, REAL_TIME, STATUS};
 use crate::answer::{ACCEPTED, BAD_TEMPERATURE, NOT_MONITORING};
 use crate::sensor::{comparator_mark, two_times};
+use crate::status::set_bits;
 
 /// "It stores seven codes, three temperatures and three fan counts."
 #[derive(Clone, Copy, Debug, PartialEq, Eq)]
@@ -98,7 +99,7 @@ impl Monitor {
 
     /// "The number of standing alarms is the count of set bits in 41h and 42h."
     pub fn standing_alarms(&self) -> u32 {
-        STATUS.iter().map(|&s| self.shown(s).count_ones()).sum()
+        set_bits(STATUS.map(|status| self.shown(status)))
     }
 
     /// The OVT output of sensor 2 or 3; no other sensor has one.

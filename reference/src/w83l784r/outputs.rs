@@ -5,6 +5,7 @@ use super::monitor::{sensor_place, Monitor, STATUS};
 use super::plan::fan_place;
 use super::sample::{FAN_COUNT, OVT_PROPERTY, SMI_PROPERTY};
 use crate::speed::Speed;
+use crate::status::set_bits;
 
 const SMI_MASK: [usize; 2] = [cell(0x43), cell(0x44)];
 
@@ -34,18 +35,9 @@ impl Monitor {
         (1..=3).any(|sensor| self.ovt(sensor) && self.en_ovt(sensor))
     }
 
-    /// "Standing alarms: the set bits of 41h and 42h as shown", counted one by
-    /// one.
+    /// "Standing alarms: the set bits of 41h and 42h as shown".
     pub fn standing_alarms(&self) -> u32 {
-        let mut alarms = 0;
-        for status in STATUS {
-            for bit in 0..8 {
-                if (self.shown(status) >> bit) & 1 == 1 {
-                    alarms += 1;
-                }
-            }
-        }
-        alarms
+        set_bits(STATUS.map(|status| self.shown(status)))
     }
 
     /// "Speed of fan 1 or 2: tenths of rpm (C-12) from the stored count and the

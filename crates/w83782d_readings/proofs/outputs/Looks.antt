@@ -3,15 +3,20 @@
 use mathlib.Core.Path.{_≡_}
 use mathlib.Core.Bool.{Bool, true, false, not}
 use mathlib.Core.List.{List}
-use Prim.Native.Nat.{ℕ, _≤_}
+use Prim.Native.Nat.{ℕ, _≤_, _<_}
+use native.Mathlib.Omega.{arith}
 use borrow.Author.Tests.{eq-eqb, ne-eqb, not-true, not-false}
+use lib.Bits.{bitAnd, and-le-r, or-lt}
+use lib.Count.{ones-le}
+use lib.Dec.{lit<}
 use lib.ListN.{length, getD}
 use Rattle.bits.specs.Bits.{isOn}
+use Rattle.status.proofs.StatusLaws.{counts-set-bits}
 use Rattle.status.specs.Status.{anyUnmasked, alarmCount}
 use Rattle.w83782d_map.specs.Map.{cells}
 use Rattle.w83782d_map.specs.Cells.{configuration, interruptStatus1, interruptStatus2, smiMask1, smiMask2}
-use Rattle.w83782d_registers.specs.Registers.{withChassis}
-use Rattle.w83782d_readings.specs.Outputs.{smiOf, standingAlarms, outputsOf}
+use Rattle.w83782d_registers.specs.Registers.{withChassis, shownOf}
+use Rattle.w83782d_readings.specs.Outputs.{smiOf, standingAlarms, outputsOf, AlarmsCounted}
 use Rattle.w83782d_readings.specs.declared.outputs.Outputs.the-variants.{Shown, WrongLength}
 
 -- ---- SMI
@@ -49,3 +54,22 @@ module _ (rs : List ℕ) (chassis : Bool) where
       → Shown b n ≡ outputsOf rs chassis
   unfolding outputsOf
   outputs-shown b n h e f = simp (eq-eqb (length rs) cells h, e, f .0)
+
+-- ---- the alarms, bit by bit
+
+-- 42h as it is shown has six bits
+shown-lt : (b : ℕ) (chassis : Bool) → withChassis b chassis < 64
+shown-lt b true = or-lt 6 (bitAnd b 0b0010_1111) 0b0001_0000 (omega (arith, and-le-r b 0b0010_1111)) (lit< tt)
+shown-lt b false = or-lt 6 (bitAnd b 0b0010_1111) 0 (omega (arith, and-le-r b 0b0010_1111)) (lit< tt)
+
+pub alarms-counted-all : AlarmsCounted
+unfolding standingAlarms shownOf
+alarms-counted-all rs chassis h =
+    let z = withChassis (getD rs interruptStatus2 0) chassis in
+    let six : z < 64 = shown-lt (getD rs interruptStatus2 0) chassis in
+    let x = getD rs interruptStatus1 0 in
+    record {
+      each = counts-set-bits .each x z h (omega arith);
+      most = omega (arith, ones-le 8 x h, ones-le 6 z six);
+      none = counts-set-bits .none x z h (omega arith);
+    }

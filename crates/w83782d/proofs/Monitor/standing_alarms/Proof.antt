@@ -1,4 +1,5 @@
 use borrow.Author.Needs.{needs}
+use Rattle.w83782d_readings.proofs.outputs.Looks.{alarms-counted-all}
 use Rattle.w83782d.proofs.Wrappers.{alarms-shown, never-short}
 use Rattle.w83782d.proofs.Monitor.standing_alarms.Statement.{statement}
 use Rattle.w83782d.proofs.Monitor.standing_alarms.Tie as tie
@@ -19,10 +20,10 @@ enum-told : tie.Need-enum-told
 enum-told c = search needs
 
 returns : tie.Need-returns
-returns c = search (needs, alarms-shown)
+returns c = (search (needs, alarms-shown), alarms-counted-all)
 
 returns-2 : tie.Need-returns-2
-returns-2 c = search (needs, never-short)
+returns-2 c = (search (needs, never-short), alarms-counted-all)
 
 pub standing-alarms-spec : {M : Type 1} → statement M
 standing-alarms-spec =

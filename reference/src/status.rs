@@ -1,0 +1,16 @@
+//! The two status bytes that the chips of the family have.
+
+/// The set bits of the status bytes as they are shown, counted one by one: not
+/// by the operation that the proved program has, or each would judge the other
+/// by it.
+pub(crate) fn set_bits(shown: [u8; 2]) -> u32 {
+    let mut set = 0;
+    for byte in shown {
+        for bit in 0..8 {
+            if (byte >> bit) & 1 == 1 {
+                set += 1;
+            }
+        }
+    }
+    set
+}

@@ -14,7 +14,7 @@ use lib.Dec.{T, eqb, ltb, ltb→lt}
 use Rattle.bits.specs.Bits.{bit, isOn, flagOf, choose}
 use Rattle.bits.proofs.BitLaws.{bit-lt, bit-none, bit-on, and-bit, or-bit}
 use Rattle.bits.proofs.Every.{every-at, same-below, same-below2, both, both-left, both-right}
-use Rattle.status.specs.Status.{unmasked}
+use Rattle.status.specs.Status.{unmasked, alarmCount}
 use Rattle.status.specs.Claims.{UnmaskedBit, AnyUnmaskedExactly, setBits, CountsSetBits}
 use Rattle.status.specs.Claims.UnmaskedBit.{inFirst, inSecond}
 
@@ -117,6 +117,12 @@ any-unmasked s1 m1 s2 m2 h1 h2 =
     )
 
 -- ---- the count
+
+-- a figure: of the fourteen bits of 41h and 42h six are of the same places, and all count
+all-counted : alarmCount 0b1111_1111 0b0011_1111 ≡ 14
+unfolding ones onesIn
+all-counted = refl
+
 pub count-few : (x z : ℕ) → x < 2 ^ 8 → z < 2 ^ 8 → ones x + ones z ≤ 16
 count-few x z h k = omega (arith, ones-le 8 x h, ones-le 8 z k)
 

@@ -18,6 +18,7 @@ AnyUnmaskedExactly =
 
 -- ---- the count, bit by bit
 
+-- how many of the eight bits of a byte are 1
 abbrev pub setBits : ℕ → ℕ
 setBits s = bit s 0 + (bit s 1 + (bit s 2 + (bit s 3 + (bit s 4 + (bit s 5 + (bit s 6 + bit s 7))))))
 

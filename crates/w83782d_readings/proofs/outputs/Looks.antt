@@ -1,16 +1,17 @@
 -- SMI and standing alarms by their cases, over plain variables.
 -- Assumes nothing.
-use mathlib.Core.Path.{_≡_}
+use mathlib.Core.Path.{_≡_, refl}
 use mathlib.Core.Bool.{Bool, true, false, not}
 use mathlib.Core.List.{List}
 use Prim.Native.Nat.{ℕ, _≤_, _<_}
 use native.Mathlib.Omega.{arith}
 use borrow.Author.Tests.{eq-eqb, ne-eqb, not-true, not-false}
 use lib.Bits.{bitAnd, and-le-r, or-lt}
-use lib.Count.{ones-le}
-use lib.Dec.{lit<}
+use lib.Count.{onesIn, ones, ones-le}
+use lib.Dec.{eqb, lit<}
 use lib.ListN.{length, getD}
-use Rattle.bits.specs.Bits.{isOn}
+use Rattle.bits.specs.Bits.{isOn, choose}
+use Rattle.bits.specs.Map.{tabulate}
 use Rattle.status.proofs.StatusLaws.{counts-set-bits}
 use Rattle.status.specs.Status.{anyUnmasked, alarmCount}
 use Rattle.w83782d_map.specs.Map.{cells}
@@ -36,6 +37,18 @@ module _ (rs : List ℕ) (chassis : Bool) (c : ℕ) (e : c ≡ getD rs configura
     unfolding smiOf
     smi-passed x m y z k r t ex em ey ez ek er =
         simp (← e, ← f, not-false a n, ← g, t, ← ex, ← em, ← ek, ← ey, ← ez) er
+
+-- ---- standing alarms
+
+-- a figure: 41h has two bits set; of 42h's cell a read shows bits 3 and 1, and not 7, 6 and 4, which is the latch
+abbrev someStatus : List ℕ
+someStatus =
+    tabulate cells 0 (λ c. choose (eqb c interruptStatus1) 0b1000_0001 (choose (eqb c interruptStatus2) 0b1101_1010 0))
+
+as-shown : (chassis : Bool) → standingAlarms someStatus chassis ≡ choose chassis 5 4
+unfolding standingAlarms ones onesIn
+as-shown true = refl
+as-shown false = refl
 
 pub alarms-counted : (rs : List ℕ) (chassis : Bool) (x y z n : ℕ) → x ≡ getD rs interruptStatus1 0
     → y ≡ getD rs interruptStatus2 0 → z ≡ withChassis y chassis → (n ≡ alarmCount x z) × (n ≤ 16)

@@ -50,15 +50,16 @@ impl Listed for Call {
     }
 
     /// One time less, and in the end the write.
-    fn simpler(&self) -> Vec<Call> {
-        match *self {
-            Call::Notes { times: 1, value } => vec![note(value)],
-            Call::Notes { times, value } => vec![Call::Notes {
+    fn simpler(&self) -> Box<dyn Iterator<Item = Call>> {
+        let simpler = match *self {
+            Call::Notes { times: 1, value } => Some(note(value)),
+            Call::Notes { times, value } => Some(Call::Notes {
                 times: times - 1,
                 value,
-            }],
-            _ => vec![],
-        }
+            }),
+            _ => None,
+        };
+        Box::new(simpler.into_iter())
     }
 }
 

@@ -6,9 +6,9 @@ use std::fmt::Debug;
 pub trait Listed: Clone {
     fn in_words(&self) -> String;
 
-    /// What may take its place in a failing list. Each must be simpler than it:
-    /// the search goes on from there.
-    fn simpler(&self) -> Vec<Self>;
+    /// What may take its place in a failing list, made one by one, since a call may
+    /// be long. Each must be simpler than it: the search goes on from there.
+    fn simpler(&self) -> Box<dyn Iterator<Item = Self> + '_>;
 }
 
 /// What is expected of a chip: its state by the second program, and the image that

@@ -51,7 +51,7 @@ fn without_a_part<C: Listed>(fails: Fails<C>, calls: &[C], part: usize) -> Optio
 /// A list that fails, with one call in a simpler form.
 fn with_a_simpler_call<C: Listed>(fails: Fails<C>, calls: &[C]) -> Option<Vec<C>> {
     (0..calls.len()).find_map(|place| {
-        calls[place].simpler().into_iter().find_map(|call| {
+        calls[place].simpler().find_map(|call| {
             let mut simpler = calls.to_vec();
             simpler[place] = call;
             prefix(fails, &simpler)

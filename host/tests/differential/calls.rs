@@ -7,6 +7,7 @@ use crate::looks::{self, Looks};
 use crate::samples::wrapped;
 use reference::answer::ACCEPTED;
 use reference::w83782d::{decode, Event, Monitor, Sample, RECORD_LENGTH};
+use std::iter;
 
 #[derive(Clone, Debug, PartialEq, Eq)]
 pub enum Call {
@@ -62,25 +63,34 @@ impl Listed for Call {
         }
     }
 
-    /// For a log, the logs without one of its records, or its only record; for a
-    /// record, the call of its event.
-    fn simpler(&self) -> Vec<Call> {
+    /// For a log, the logs without a part of its records, large parts first, or its
+    /// only record; for a record, the call of its event.
+    fn simpler(&self) -> Box<dyn Iterator<Item = Call> + '_> {
         match self {
-            Call::Replay { log } if log.len() == RECORD_LENGTH => vec![Call::Event {
-                record: log.clone(),
-            }],
-            Call::Replay { log } => {
-                let starts = (0..log.len()).step_by(RECORD_LENGTH);
-                let shorter = starts.map(|from| {
-                    let to = log.len().min(from + RECORD_LENGTH);
-                    [&log[..from], &log[to..]].concat()
-                });
-                shorter.map(|log| Call::Replay { log }).collect()
+            Call::Replay { log } if log.len() == RECORD_LENGTH => {
+                Box::new(iter::once(Call::Event {
+                    record: log.clone(),
+                }))
             }
-            Call::Event { record } => decode(record).ok().map(Call::from).into_iter().collect(),
-            _ => vec![],
+            Call::Replay { log } => Box::new(shorter(log).map(|log| Call::Replay { log })),
+            Call::Event { record } => Box::new(decode(record).ok().map(Call::from).into_iter()),
+            _ => Box::new(iter::empty()),
         }
     }
+}
+
+/// The logs without one part of the records: each half, each quarter, and so on to
+/// single records.
+fn shorter(log: &[u8]) -> impl Iterator<Item = Vec<u8>> + '_ {
+    let records = log.len().div_ceil(RECORD_LENGTH);
+    let parts = iter::successors(Some(records), |part| (*part > 1).then(|| part.div_ceil(2)));
+    parts.skip(1).flat_map(move |part| {
+        let length = part * RECORD_LENGTH;
+        (0..log.len()).step_by(length).map(move |from| {
+            let to = log.len().min(from + length);
+            [&log[..from], &log[to..]].concat()
+        })
+    })
 }
 
 pub type Subject = lists::Subject<Expected>;

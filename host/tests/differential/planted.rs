@@ -509,6 +509,20 @@ fn a_replay_shrinks_to_the_records_that_show_it() {
     assert!(text.contains("\nreplay\n  ["), "{text}");
 }
 
+/// Of 100,000 records too, whose logs without one of them would not fit into memory.
+#[test]
+fn a_long_replay_shrinks_to_the_records_that_show_it() {
+    let write = |index| record_of(&Event::Write { index, value: 0x50 });
+    let (accepted, refused) = (write(0x2B), write(0x41));
+    let mut records = vec![record_of(&Event::Read { index: 0x20 }); 100_000];
+    records[33_333] = accepted;
+    records[77_777] = refused;
+    let log = records.concat();
+    let list = shrunk_list(replay_taken_back, &[Call::Replay { log }]);
+    let log = [accepted, refused].concat();
+    assert_eq!(list, [Call::Replay { log }]);
+}
+
 #[test]
 fn a_disagreement_is_told_with_its_seed_calls_and_places() {
     let list = shrunk(chassis_cleared_by_read);

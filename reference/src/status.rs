@@ -1,8 +1,7 @@
 //! The two status bytes that the chips of the family have.
 
-/// The set bits of the status bytes as they are shown, counted one by one: not
-/// by the operation that the proved program has, or each would judge the other
-/// by it.
+/// The set bits of the status bytes as they are shown, counted one by one: by
+/// the operation that the proved program has, a wrong one would be in both.
 pub(crate) fn set_bits(shown: [u8; 2]) -> u32 {
     let mut set = 0;
     for byte in shown {

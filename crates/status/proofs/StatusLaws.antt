@@ -118,7 +118,7 @@ any-unmasked s1 m1 s2 m2 h1 h2 =
 
 -- ---- the count
 
--- a figure: of the fourteen bits of 41h and 42h six are of the same places, and all count
+-- a figure: eight bits of one byte and six of the other, at the same places, are fourteen
 all-counted : alarmCount 0b1111_1111 0b0011_1111 ≡ 14
 unfolding ones onesIn
 all-counted = refl

@@ -166,7 +166,10 @@ uint8_t w83782d_chassis_opened(uint8_t *image, size_t n);
  * Sample: codes of the seven voltages (VCOREA, VINR0, +3.3, +5, +12, -12, -5),
  * sensor 1 in whole degrees, sensors 2 and 3 in half degrees, the undivided counts
  * of fans 1 to 3: 1,350,000 / rpm rounded down, UINT32_MAX for a fan that doesn't
- * turn. Stores them, sets the real-time bits, latches status and moves OVT.
+ * turn. Stores them, sets the real-time bits, latches status and moves OVT. A fan's
+ * status bit is latched when the fan gets slow and when it is no longer slow:
+ * whether it was slow at the last accepted sample is its real-time bit (bank 4,
+ * 59h and 5Ah).
  * Sensor 1 is -128 to 127: the caller holds a measurement beyond that at the nearer
  * end, since no answer can tell of it (130 as int8_t is -126, an alarm lost).
  * Answers 0, 8 (n, or v is not W83782D_VOLTAGES), 3 (t2 or t3 outside -256 to 255)

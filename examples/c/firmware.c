@@ -328,7 +328,8 @@ int main(void)
     if (!run(1, 3))
         return 1;
 
-    /* The controller restarts while the cabinet runs on. */
+    /* The controller restarts while the cabinet runs on; its pins are released. */
+    smi_pin = ovt_pin = false;
     if (!start() || !run(4, SECONDS))
         return 1;
 

@@ -200,7 +200,8 @@ fn main() -> Result<(), Refusal> {
     let (before, after) = SECONDS.split_at(3);
     run(before, &mut firmware, &mut board)?;
 
-    // The controller restarts while the cabinet runs on.
+    // The controller restarts while the cabinet runs on; its pins are released.
+    board.release_pins();
     firmware = Firmware::start(&mut board)?;
     run(after, &mut firmware, &mut board)?;
 
@@ -259,6 +260,10 @@ mod board {
                 smi: false,
                 ovt: false,
             }
+        }
+
+        pub fn release_pins(&mut self) {
+            (self.smi, self.ovt) = (false, false);
         }
 
         pub fn tick(&mut self, second: usize) {

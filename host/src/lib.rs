@@ -97,7 +97,10 @@ impl Monitor {
     }
 
     /// A sample: stores its readings, sets the real-time bits, latches status and
-    /// moves OVT. [`Refusal::BadTemperature`] or [`Refusal::NotMonitoring`] leaves
+    /// moves OVT. A fan's status bit is latched when the fan gets slow and when it is
+    /// no longer slow: whether it was slow at the last accepted sample is its
+    /// real-time bit (bank 4, 59h and 5Ah).
+    /// [`Refusal::BadTemperature`] or [`Refusal::NotMonitoring`] leaves
     /// the monitor as it was. A measurement of sensor 1 beyond -128 to 127 is held
     /// at the nearer end by the caller: `130 as i8` is -126, an alarm lost.
     ///

@@ -131,6 +131,21 @@ fn a_bit_is_latched_at_each_event_that_sets_it() {
     assert_eq!(line(&report(&log(&events)), "20"), "2 1 1 2");
 }
 
+/// C-14.
+#[test]
+fn a_fans_bit_is_latched_at_each_crossing() {
+    // The limit of fan 1 is 0 at power-on, and its divisor 2.
+    let [fast, slow] = [0, 2].map(|u| {
+        Event::Sample(Sample {
+            u: [u, 0, 0],
+            ..CALM
+        })
+    });
+    let read = Event::Read { index: 0x41 };
+    let events = [START, slow, read, slow, fast, fast, slow];
+    assert_eq!(line(&report(&log(&events)), "41.6"), "3");
+}
+
 #[test]
 fn the_chassis_bit_is_latched_by_chassis_events_alone() {
     let events = [

@@ -173,20 +173,161 @@ fn a_voltage_equal_to_a_limit_is_fine() {
 }
 
 #[test]
-fn voltage_and_fan_bits_latch_at_each_sample_and_real_time_bits_do_not() {
+fn voltage_bits_latch_at_each_sample_and_real_time_bits_do_not() {
     let mut m = quiet();
     assert_eq!(m.write(0x2B, 99), 0);
-    assert_eq!(m.write(0x3B, 20), 0);
     let mut bad = CALM;
     bad.codes[0] = 100;
-    bad.u[0] = 42;
     assert_eq!(m.sample(&bad), 0);
     assert_eq!(m.sample(&CALM), 0);
     // Status stays latched, real-time follows the last sample.
-    assert_eq!(bits(&mut m), ([0x41, 0], [0, 0]));
+    assert_eq!(bits(&mut m), ([0x01, 0], [0, 0]));
     for _ in 0..3 {
         assert_eq!(m.sample(&bad), 0);
-        assert_eq!(bits(&mut m), ([0x41, 0], [0x41, 0]));
+        assert_eq!(bits(&mut m), ([0x01, 0], [0x01, 0]));
+    }
+}
+
+/// 41h and 42h, or 59h and 5Ah, with the bit of one fan or none.
+fn fan_bit(fan: u8, on: bool) -> [u8; 2] {
+    let bit = [[0x40, 0], [0x80, 0], [0, 0x08]][usize::from(fan) - 1];
+    if on {
+        bit
+    } else {
+        [0, 0]
+    }
+}
+
+/// A calm sample with one fan's u.
+fn with_u(fan: u8, u: u32) -> Sample {
+    let mut s = CALM;
+    s.u[usize::from(fan) - 1] = u;
+    s
+}
+
+/// C-14, here and below.
+#[test]
+fn a_fan_latches_on_crossings_in_both_directions() {
+    for fan in 1..=3 {
+        let mut m = quiet();
+        assert_eq!(m.write(0x3A + fan, 100), 0);
+        // Divisor 2: slow from 202 on.
+        for (u, slow, latches) in [
+            (0, false, false),
+            (201, false, false),
+            (202, true, true),
+            (203, true, false),
+            (u32::MAX, true, false),
+            (201, false, true),
+            (0, false, false),
+            (500, true, true),
+            (0, false, true),
+        ] {
+            assert_eq!(m.sample(&with_u(fan, u)), 0);
+            let expected = (fan_bit(fan, latches), fan_bit(fan, slow));
+            assert_eq!(bits(&mut m), expected, "fan {fan} u {u}");
+        }
+    }
+}
+
+#[test]
+fn a_fan_bit_stays_latched_until_it_is_read() {
+    for fan in 1..=3 {
+        let mut m = quiet();
+        assert_eq!(m.write(0x3A + fan, 100), 0);
+        for u in [202, 202, 0, 0, 202] {
+            assert_eq!(m.sample(&with_u(fan, u)), 0);
+        }
+        assert_eq!(bits(&mut m), (fan_bit(fan, true), fan_bit(fan, true)));
+        assert_eq!(m.sample(&with_u(fan, 202)), 0);
+        assert_eq!(bits(&mut m), (fan_bit(fan, false), fan_bit(fan, true)));
+    }
+}
+
+#[test]
+fn a_changed_limit_divisor_or_plan_may_cause_a_crossing_at_the_next_sample() {
+    for fan in 1..=3 {
+        let [none, one] = [false, true].map(|on| fan_bit(fan, on));
+        let s = with_u(fan, 300);
+        let mut m = quiet();
+        assert_eq!(m.sample(&s), 0);
+        assert_eq!(bits(&mut m), (none, none));
+        // Count 150 against limit 149; nothing moves before the sample.
+        assert_eq!(m.write(0x3A + fan, 149), 0);
+        assert_eq!(bits(&mut m), (none, none));
+        assert_eq!(m.sample(&s), 0);
+        assert_eq!(bits(&mut m), (one, one));
+        assert_eq!(m.sample(&s), 0);
+        assert_eq!(bits(&mut m), (none, one));
+        // Limit 255 never rings.
+        assert_eq!(m.write(0x3A + fan, 255), 0);
+        assert_eq!(bits(&mut m), (none, one));
+        assert_eq!(m.sample(&s), 0);
+        assert_eq!(bits(&mut m), (one, none));
+        // 4,500 rpm: K is 300, and d 2 with L 149 rings from 300 on.
+        assert_eq!(m.set_plan(fan, 4_500), 0);
+        assert_eq!(bits(&mut m), (none, none));
+        assert_eq!(m.sample(&s), 0);
+        assert_eq!(bits(&mut m), (one, one));
+        // Divisor 4 or 8 for all: count 75 or 37.
+        assert_eq!(m.write(0x47, 0xA0), 0);
+        assert_eq!(m.write(0x4B, 0xC4), 0);
+        assert_eq!(bits(&mut m), (none, one));
+        assert_eq!(m.sample(&s), 0);
+        assert_eq!(bits(&mut m), (one, none));
+    }
+}
+
+#[test]
+fn a_reset_leaves_no_fan_slow_and_a_refused_sample_is_no_crossing() {
+    for fan in 1..=3 {
+        let [none, one] = [false, true].map(|on| fan_bit(fan, on));
+        // Limit 0, divisor 2: slow from 2 on. Rails ring too, so the fans' bits alone.
+        let fans = |m: &mut Monitor| {
+            let (status, real_time) = bits(m);
+            let masked = |[first, second]: [u8; 2]| [first & 0xC0, second & 0x08];
+            (masked(status), masked(real_time))
+        };
+        let mut fast = CALM;
+        fast.u = [0; 3];
+        let mut slow_alone = fast;
+        slow_alone.u[usize::from(fan) - 1] = 2;
+        let mut m = Monitor::power_on();
+        assert_eq!(m.sample(&slow_alone), 0);
+        assert_eq!(fans(&mut m), (one, one));
+        assert_eq!(m.write(0x40, 0x00), 0);
+        assert_eq!(m.sample(&fast), 4);
+        assert_eq!(m.write(0x40, 0x01), 0);
+        let mut out_of_range = fast;
+        out_of_range.t2 = 256;
+        assert_eq!(m.sample(&out_of_range), 3);
+        assert_eq!(m.sample(&slow_alone), 0);
+        assert_eq!(fans(&mut m), (none, one));
+        // Slow after a reset is a crossing again.
+        assert_eq!(m.write(0x40, 0x80), 0);
+        assert_eq!(fans(&mut m), (none, none));
+        assert_eq!(m.sample(&slow_alone), 0);
+        assert_eq!(fans(&mut m), (one, one));
+    }
+}
+
+#[test]
+fn the_three_fans_cross_apart() {
+    let mut m = quiet();
+    for index in 0x3B..=0x3D {
+        assert_eq!(m.write(index, 0), 0);
+    }
+    for (u, status, real_time) in [
+        ([2, 0, 0], [0x40, 0x00], [0x40, 0x00]),
+        ([2, 2, 0], [0x80, 0x00], [0xC0, 0x00]),
+        ([0, 2, 2], [0x40, 0x08], [0x80, 0x08]),
+        ([2, 0, 0], [0xC0, 0x08], [0x40, 0x00]),
+        ([2, 0, 0], [0x00, 0x00], [0x40, 0x00]),
+    ] {
+        let mut s = CALM;
+        s.u = u;
+        assert_eq!(m.sample(&s), 0);
+        assert_eq!(bits(&mut m), (status, real_time), "{u:?}");
     }
 }
 
@@ -284,8 +425,12 @@ fn expected_after(before: &Monitor, s: &Sample) -> Monitor {
         let count = u64::from(s.u[i]) / 2_u64.pow(u32::from(exponent[i]));
         let count = if count > 255 { 255 } else { count as u8 };
         after.registers[at(0, 0x28 + n)] = count;
-        if count > reg(0, 0x3B + n) {
+        let slow = count > reg(0, 0x3B + n);
+        let was_slow = reg(4, 0x59 + byte as u8) >> bit & 1 == 1;
+        if slow {
             real_time[byte] |= 1 << bit;
+        }
+        if slow != was_slow {
             latched[byte] |= 1 << bit;
         }
     }

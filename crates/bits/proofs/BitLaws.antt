@@ -6,7 +6,7 @@ use Prim.Native.Nat.{ℕ, _+_, _-_, _*_, _/_, _%_, _^_, _<_, min, max}
 use native.Mathlib.Nat.{mod-lt, zero-div}
 use native.Mathlib.Omega.{arith}
 use lib.Dec.{lit<}
-use lib.Bits.{bitAnd, bitOr, and-shr, or-shr, and-mod, or-mod, and-mask}
+use lib.Bits.{bitAnd, bitOr, bitXor, differ, and-shr, or-shr, xor-shr, and-mod, or-mod, xor-mod, and-mask}
 use borrow.Author.Tests.{eqb-true, eqb-false}
 use Rattle.bits.specs.Bits.{bit, isOn, mergeOf, numberOf, choose}
 use Rattle.bits.specs.Claims.{MergeTakes}
@@ -71,6 +71,9 @@ and-bit = bit-by-bit bitAnd min and-shr and-mod (same-below2 2 2 bitAnd min tt)
 
 pub or-bit : (a b j : ℕ) → bit (bitOr a b) j ≡ max (bit a j) (bit b j)
 or-bit = bit-by-bit bitOr max or-shr or-mod (same-below2 2 2 bitOr max tt)
+
+pub xor-bit : (a b j : ℕ) → bit (bitXor a b) j ≡ differ (bit a j) (bit b j)
+xor-bit = bit-by-bit bitXor differ xor-shr xor-mod (same-below2 2 2 bitXor differ tt)
 
 not-bit : (m j : ℕ) → m < 256 → j < 8 → bit (255 - m) j ≡ 1 - bit m j
 unfolding bit

@@ -1,2 +1,3 @@
 pub mod StatusLaws
 pub mod AfterLaws
+pub mod Crossings

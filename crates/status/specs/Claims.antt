@@ -1,10 +1,10 @@
 -- What is claimed of two status bytes and their masks, bit by bit.
 use mathlib.Core.Path.{_≡_}
-use mathlib.Core.Bool.{true}
+use mathlib.Core.Bool.{true, xor}
 use mathlib.Core.Logic.{_↔_}
 use Prim.Native.Nat.{ℕ, _+_, _<_}
-use Rattle.bits.specs.Bits.{bit}
-use Rattle.status.specs.Status.{anyUnmasked, alarmCount}
+use Rattle.bits.specs.Bits.{bit, isOn, choose, flagOf}
+use Rattle.status.specs.Status.{anyUnmasked, alarmCount, crossedOf}
 
 -- a bit of the first or of the second status byte that is set and not masked
 pub data UnmaskedBit (s1 m1 s2 m2 : ℕ) : Type 0 where
@@ -26,3 +26,10 @@ setBits s = bit s 0 + (bit s 1 + (bit s 2 + (bit s 3 + (bit s 4 + (bit s 5 + (bi
 pub record CountsSetBits : Type 0 where
   pub each : (s1 s2 : ℕ) → s1 < 256 → s2 < 256 → alarmCount s1 s2 ≡ setBits s1 + setBits s2
   pub none : (s1 s2 : ℕ) → s1 < 256 → s2 < 256 → (alarmCount s1 s2 ≡ 0) ↔ ((s1 ≡ 0) × (s2 ≡ 0))
+
+-- ---- crossings: a condition of the mask counts where it has changed, either way; any other where it is true
+abbrev pub Crosses : Type 0
+Crosses =
+    (before mask now j : ℕ)
+    → bit (crossedOf before mask now) j
+    ≡ flagOf (choose (isOn mask j) (xor (isOn now j) (isOn before j)) (isOn now j))

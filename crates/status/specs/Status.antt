@@ -1,8 +1,8 @@
--- Two status bytes and their masks: what the masks leave, the count of the set bits, and
--- what an event leaves of a byte.
+-- Two status bytes and their masks: what the masks leave, the count of the set bits, what
+-- an event leaves of a byte, and conditions that latch on crossings.
 use mathlib.Core.Bool.{Bool, not}
 use Prim.Native.Nat.{ℕ, _+_, _-_, max}
-use lib.Bits.{bitAnd, bitOr}
+use lib.Bits.{bitAnd, bitOr, bitXor}
 use lib.Count.{ones}
 use lib.Dec.{eqb}
 use Rattle.bits.specs.Bits.{bit, isOn, choose}
@@ -29,3 +29,8 @@ noBits = statusBits 0 0
 -- bit j of a status byte after an event, by what it was: as it was unless it is cleared, and set where it is latched
 abbrev pub bitAfter : ℕ → ℕ → ℕ → ℕ → ℕ
 bitAfter was cleared latched j = max (choose (isOn cleared j) 0 was) (bit latched j)
+
+-- ---- crossings (C-14): of a byte of conditions, those of the mask where they differ from the byte before, and every
+-- other as it is
+unfoldable pub crossedOf : ℕ → ℕ → ℕ → ℕ
+crossedOf before mask now = bitXor now (bitAnd before mask)

@@ -1,9 +1,10 @@
 // Two status bytes and their masks: whether a bit is set that its mask leaves, how many bits
-// are set, and bits of both, such as those that an event latches. Nothing here is of one chip.
+// are set, bits of both, such as those that an event latches, and conditions that latch on crossings.
+// Nothing here is of one chip.
 ghost use mathlib.Core.Path.{_≡_};
 ghost use Prim.Native.Nat.{_≤_};
-ghost use Rattle.status.specs.Status.{anyUnmasked, alarmCount};
-ghost use Rattle.status.specs.Claims.{CountsSetBits};
+ghost use Rattle.status.specs.Status.{anyUnmasked, alarmCount, crossedOf};
+ghost use Rattle.status.specs.Claims.{CountsSetBits, Crosses};
 
 // Bits of two status bytes.
 pub struct StatusBits {
@@ -25,4 +26,13 @@ pub fn alarm_count(first: u8, second: u8) -> u32
     ensures claims { λ r. ⌜ CountsSetBits ⌝ }
 {
     u8::count_ones(first) + u8::count_ones(second)
+}
+
+// What a byte of conditions latches where those of the mask latch on crossings: these where they differ from the byte
+// before, every other where it is true.
+pub fn crossed(before: u8, mask: u8, now: u8) -> u8
+    ensures equation { λ r. ⌜ r ≡ crossedOf before mask now ⌝ }
+    ensures claims { λ r. ⌜ Crosses ⌝ }
+{
+    now ^ (before & mask)
 }

@@ -1,6 +1,8 @@
 pub mod Stores
 pub mod Answers
 pub mod Conditions
+pub mod Quiet
+pub mod Crossings
 pub mod Smi
 pub mod Looked
 pub mod Stored

@@ -2,7 +2,7 @@
 -- `in_force` has the claim itself, once for every chip (Chip.antt), and how long a plan is in force (InForce.antt).
 use mathlib.Core.Path.{_≡_}
 use mathlib.Core.Bool.{Bool, _&&_}
-use mathlib.Core.List.{List, [], _∷_, map}
+use mathlib.Core.List.{List, [], _∷_, map, foldl}
 use Prim.Native.Nat.{ℕ, _-_, _≤_}
 use lib.Dec.{eqb, leb}
 use lib.ListN.{getD}
@@ -18,8 +18,7 @@ use Rattle.w83782d_registers.specs.Registers.{resetRegisters}
 use Rattle.w83782d_latches.specs.Effects.{openedLatches}
 use Rattle.w83782d_bus.specs.Bus.{State, state, Written, written, writeOf, readOf}
 use Rattle.w83782d_store.specs.Stored as Stored
-use Rattle.w83782d_sample.specs.Sample.{sampleOf}
-use Rattle.w83782d_claims.specs.SampleClaims.{fanBit}
+use Rattle.w83782d_sample.specs.Sample.{fanBit, sampleOf}
 use Rattle.w83782d_plan.specs.Plan.{fans, fanOf, setPlanOf}
 
 -- ---- P-9: the calls
@@ -86,6 +85,10 @@ monitor =
       answer = λ s c. answerTo s c .answer;
       kind = kindOf;
     }
+
+-- the state after a list of calls
+abbrev pub stateAfter : State → List Call → State
+stateAfter s cs = foldl (monitor .step) s cs
 
 -- of every fan, every state to start from and every list of calls, at each of its calls
 abbrev pub AlarmRings : Type 0

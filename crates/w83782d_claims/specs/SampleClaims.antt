@@ -2,7 +2,7 @@
 -- (rules S-1 to S-10, T, I, O). The definitions are those that the contracts cite (w83782d_conditions:
 -- Conditions.antt; w83782d_sample: Stored.antt, Sample.antt; w83782d_readings: Outputs.antt).
 use mathlib.Core.Path.{_≡_}
-use mathlib.Core.Bool.{Bool, true, false, not, _&&_, _||_}
+use mathlib.Core.Bool.{Bool, true, false, not, _&&_, _||_, xor}
 use mathlib.Core.List.{List, [], _∷_}
 use mathlib.Core.Logic.{_≢_, _↔_}
 use Prim.Native.Nat.{ℕ, _+_, _<_, _≤_, max}
@@ -25,14 +25,16 @@ use Rattle.w83782d_map.specs.Cells.{pinControl, pwmClock, realTimeStatus1, real
 use Rattle.w83782d_map.specs.Cells.{sensorConfiguration, smiMask1, smiMask2, vbatFanDivisor, voltage}
 use Rattle.w83782d_registers.specs.Registers.{reachOf}
 use Rattle.w83782d_latches.specs.Effects.{remoteOf}
-use Rattle.w83782d_bus.specs.Bus.{State, Written, writeOf, readOf}
+use Rattle.w83782d_bus.specs.Bus.{State, Written, powerOn, writeOf, readOf}
 use Rattle.w83782d_claims.specs.BusClaims.{Whole, cellIn, shownIn}
 use Rattle.w83782d_claims.specs.Sampled.{halvesAt, isHotter, isColder, isSlower, isBeside, holdsFor, flagAt}
 use Rattle.w83782d_store.specs.Stored.{sampledCode, sampledHalves, storedCount, isStopped}
 use Rattle.w83782d_conditions.specs.Conditions.{statusMode, outputMode}
-use Rattle.w83782d_sample.specs.Sample.{Source, firstByte, secondByte, markOf, sampleOf}
+use Rattle.w83782d_sample.specs.Sample.{Source, firstByte, secondByte, fanCell, fanBit, wasSlow, markOf, sampleOf}
 use Rattle.w83782d_sample.specs.Sample.Source.{rail, sensor, fan, chassis}
 use Rattle.w83782d_readings.specs.Outputs.{smiOf}
+use Rattle.w83782d_claims.specs.Alarm.{Call, stateAfter}
+use Rattle.w83782d_claims.specs.Quiet.{areQuiet, QuietCalls}
 
 abbrev pub after : State → Sample → State
 after s x = sampleOf s x .state
@@ -87,13 +89,6 @@ pub record RealTime (s : State) (x : Sample) : Type 0 where
   pub first : (j : ℕ) → bit (cellIn (after s x) realTimeStatus1) j ≡ flagAt (holdsFor (s .registers) x) firstByte j
   pub second : (j : ℕ) → bit (cellIn (after s x) realTimeStatus2) j ≡ flagAt (holdsFor (s .registers) x) secondByte j
 
--- where a fan's real-time bit is: fans 1 and 2 in 59h, fan 3 in 5Ah
-abbrev pub fanCell : ℕ → ℕ
-fanCell f = choose (eqb f 3) realTimeStatus2 realTimeStatus1
-
-abbrev pub fanBit : ℕ → ℕ
-fanBit f = choose (eqb f 3) 3 (5 + f)
-
 -- an accepted sample rings fan f exactly when its count after division is above its limit
 abbrev pub FanRings : State → Sample → Type 0
 FanRings s x =
@@ -113,11 +108,12 @@ outputFor s x n =
     outputOf (outputMode (s .registers) n) (remoteOf (s .latches) n .output)
     (isHotter (s .registers) x n) (isColder (s .registers) x n)
 
--- S-9: voltages and fans latch where their condition is true, temperatures by their step, and no sample the chassis
+-- S-9: voltages latch where their condition is true, fans where it differs from the real-time bit that the sample
+-- before left (02, C-14), temperatures by their step, and no sample the chassis
 abbrev pub latchesFor : State → Sample → Source → Bool
 latchesFor s x (rail i) = isBeside (s .registers) x i
 latchesFor s x (sensor n) = statusFor s x n .latched
-latchesFor s x (fan f) = isSlower (s .registers) x f
+latchesFor s x (fan f) = xor (isSlower (s .registers) x f) (wasSlow (s .registers) f)
 latchesFor s x chassis = false
 
 -- an accepted sample clears no status bit, and sets exactly those that it latches
@@ -126,6 +122,50 @@ pub record StatusOr (s : State) (x : Sample) : Type 0 where
       ≡ max (bit (cellIn s interruptStatus1) j) (flagAt (latchesFor s x) firstByte j)
   pub second : (j : ℕ) → bit (cellIn (after s x) interruptStatus2) j
       ≡ max (bit (cellIn s interruptStatus2) j) (flagAt (latchesFor s x) secondByte j)
+
+-- ---- C-14: fans latch on crossings, in the words of their bits
+
+-- a fan's bit of 41h or 42h, at the place that its real-time bit has in 59h or 5Ah
+abbrev pub fanStatusBit : State → ℕ → ℕ
+fanStatusBit s f = bit (cellIn s (choose (eqb f 3) interruptStatus2 interruptStatus1)) (fanBit f)
+
+abbrev pub fanRealTimeBit : State → ℕ → ℕ
+fanRealTimeBit s f = bit (cellIn s (fanCell f)) (fanBit f)
+
+-- its real-time bit is another one
+abbrev pub hasChanged : State → State → ℕ → Bool
+hasChanged s t f = not (eqb (fanRealTimeBit t f) (fanRealTimeBit s f))
+
+-- of the first sample after a state: no accepted one and no reset in between
+abbrev pub FirstSample : State → Type 0
+FirstSample s =
+    (since : List Call) → areQuiet s since ≡ true → (y : Sample) (f : ℕ) → 1 ≤ f → f ≤ 3
+    → latchesFor (stateAfter s since) y (fan f) ≡ isSlower (stateAfter s since .registers) y f
+
+pub record Crossings (s : State) (x : Sample) : Type 0 where
+  -- the status bits: 6 and 7 of 41h, 3 of 42h
+  pub fan1 : fanStatusBit s 1 ≡ bit (cellIn s interruptStatus1) 6
+  pub fan2 : fanStatusBit s 2 ≡ bit (cellIn s interruptStatus1) 7
+  pub fan3 : fanStatusBit s 3 ≡ bit (cellIn s interruptStatus2) 3
+  -- an accepted sample sets a fan's status bit where its real-time bit changes, and leaves it where it doesn't
+  pub changed : sampleOf s x .answer ≡ 0 → (f : ℕ) → 1 ≤ f → f ≤ 3
+      → fanStatusBit (after s x) f ≡ choose (hasChanged s (after s x) f) 1 (fanStatusBit s f)
+  -- of two in a row: a status bit that was clear is set exactly where one of them changed the real-time bit
+  pub twice : sampleOf s x .answer ≡ 0 → (y : Sample) → sampleOf (after s x) y .answer ≡ 0 → (f : ℕ) → 1 ≤ f → f ≤ 3
+      → fanStatusBit s f ≡ 0 → fanStatusBit (after (after s x) y) f
+      ≡ flagOf (hasChanged s (after s x) f || hasChanged (after s x) (after (after s x) y) f)
+  -- calls that are no accepted sample and no reset leave a fan's real-time bit
+  pub quiet : QuietCalls s
+  pub leaves : (since : List Call) → areQuiet s since ≡ true → (f : ℕ)
+      → fanRealTimeBit (stateAfter s since) f ≡ fanRealTimeBit s f
+  -- so after an accepted sample and any such calls, a sample on the same side of the limit latches nothing of the fan
+  pub sameSide : sampleOf s x .answer ≡ 0 → (since : List Call) → areQuiet (after s x) since ≡ true
+      → (y : Sample) (f : ℕ) → 1 ≤ f → f ≤ 3
+      → isSlower (stateAfter (after s x) since .registers) y f ≡ isSlower (s .registers) x f
+      → latchesFor (stateAfter (after s x) since) y (fan f) ≡ false
+  -- and after a reset or power-on and any such calls, a sample latches exactly the slow fans
+  pub afterReset : (v : ℕ) → isOn v 7 ≡ true → FirstSample (writeOf s 0x40 v .state)
+  pub afterPowerOn : FirstSample powerOn
 
 -- each latch and mark after an accepted sample
 pub record LatchesAfter (s : State) (x : Sample) : Type 0 where
@@ -218,6 +258,7 @@ pub record SampleClaims (s : State) (x : Sample) : Type 0 where
   pub fanRings : sampleOf s x .answer ≡ 0 → FanRings s x
   pub realTime : sampleOf s x .answer ≡ 0 → RealTime s x
   pub statusOr : sampleOf s x .answer ≡ 0 → StatusOr s x
+  pub crossings : Crossings s x
   pub latchesAfter : sampleOf s x .answer ≡ 0 → LatchesAfter s x
   -- of the state that it finds
   pub smiExactly : SmiExactly s

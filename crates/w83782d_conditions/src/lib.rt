@@ -59,7 +59,7 @@ fn half_level_at(s: &[u8], c: usize) -> u16
     half_level(s[c], s[c + 1])
 }
 
-// ---- The bits of 41h and 59h, and of 42h and 5Ah: rails and fans, which latch and ring alike
+// ---- The bits of 41h and 59h, and of 42h and 5Ah: rails and fans, as the real-time bits show them
 
 fn first_byte(s: &[u8]) -> u8
     requires { ⌜ length (now s) ≡ cells ⌝ }

@@ -1,12 +1,12 @@
 -- What a sample does with what it stores (rules S-8 to S-10, T-1 to T-6, O-2 to O-4).
 -- Rails are numbered 0 to 6, sensors and fans 1 to 3.
-use mathlib.Core.Bool.{Bool, false}
+use mathlib.Core.Bool.{Bool, false, xor}
 use mathlib.Core.List.{List, [], _∷_, map}
-use Prim.Native.Nat.{ℕ}
+use Prim.Native.Nat.{ℕ, _+_}
 use lib.Bits.{bitOr}
 use lib.Dec.{eqb}
 use lib.ListN.{getD}
-use Rattle.bits.specs.Bits.{choose, word}
+use Rattle.bits.specs.Bits.{choose, isOn, word}
 use Rattle.bits.specs.Stores.{Store, _≔_, puts}
 use Rattle.sensor.specs.Sensor.{remote, statusOf, outputOf}
 use Rattle.sensor.specs.declared.Mark.{Mark}
@@ -55,11 +55,23 @@ condition rs (sensor n) = isAbove rs n
 condition rs (fan f) = isSlow rs f
 condition rs chassis = false
 
--- S-9, what a sample latches: voltages and fans where their condition is true, temperatures by their step
+-- where a fan's real-time bit is: fans 1 and 2 in 59h, fan 3 in 5Ah
+abbrev pub fanCell : ℕ → ℕ
+fanCell f = choose (eqb f 3) realTimeStatus2 realTimeStatus1
+
+abbrev pub fanBit : ℕ → ℕ
+fanBit f = choose (eqb f 3) 3 (5 + f)
+
+-- the real-time bit that the sample before left, in registers whose real-time bits are not yet set
+unfoldable pub wasSlow : List ℕ → ℕ → Bool
+wasSlow rs f = isOn (getD rs (fanCell f) 0) (fanBit f)
+
+-- S-9, what a sample latches: voltages where their condition is true; fans where it differs from the real-time bit that
+-- the sample before left, so on crossings both ways (02, C-14; decision D-55); temperatures by their step
 abbrev pub latchedBy : List ℕ → Latches → Source → Bool
 latchedBy rs l (rail i) = isOutside rs i
 latchedBy rs l (sensor n) = statusAt rs l n .latched
-latchedBy rs l (fan f) = isSlow rs f
+latchedBy rs l (fan f) = xor (isSlow rs f) (wasSlow rs f)
 latchedBy rs l chassis = false
 
 abbrev pub realTimeByte : List ℕ → List Source → ℕ
@@ -68,7 +80,7 @@ realTimeByte rs b = word (map (condition rs) b)
 abbrev pub latchedByte : List ℕ → Latches → List Source → ℕ
 latchedByte rs l b = word (map (latchedBy rs l) b)
 
--- ---- real-time bits set, then status latched: status or latched
+-- ---- 59h and 5Ah become the conditions, 41h and 42h status or latched
 abbrev pub statusStores : List ℕ → Latches → List Store
 statusStores rs l =
     (interruptStatus1 ≔ bitOr (getD rs interruptStatus1 0) (latchedByte rs l firstByte))

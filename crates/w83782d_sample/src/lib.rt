@@ -18,6 +18,7 @@ use sensor::Remote;
 use sensor::output_step;
 use sensor::status_step;
 use status::StatusBits;
+use status::crossed;
 use w83782d_bus::Outcome;
 use w83782d_conditions::Comparison;
 use w83782d_conditions::compare;
@@ -64,7 +65,12 @@ fn sensors(four: bool, five: bool) -> u8
     pack(false, false, false, false, four, five, false, false)
 }
 
-// ---- Real-time bits, status, marks and OVT, from the readings stored
+// ---- Real-time bits, status, marks and OVT, from the readings stored and the real-time bits before
+
+// Fans latch on crossings: fans 1 and 2 are bits 6 and 7 of the first byte, fan 3 is bit 3 of the second.
+const FANS_1: u8 = 0b1100_0000;
+
+const FANS_2: u8 = 0b0000_1000;
 
 struct Evaluation {
     real1: u8,
@@ -95,8 +101,10 @@ fn evaluate(s: &[u8], l: Latches) -> Evaluation
     let three = remote_step(comparison3, output3, q);
     let real1 = first | sensors(comparison1.above, comparison2.above);
     let real2 = second | sensors(false, comparison3.above);
-    let latched1 = first | sensors(one.latched, two.latched);
-    let latched2 = second | sensors(false, three.latched);
+    let crossed1 = crossed(s[REAL_TIME_STATUS_1], FANS_1, first);
+    let crossed2 = crossed(s[REAL_TIME_STATUS_2], FANS_2, second);
+    let latched1 = crossed1 | sensors(one.latched, two.latched);
+    let latched2 = crossed2 | sensors(false, three.latched);
     let sensor1 = one.mark;
     let a = two.remote;
     let b = three.remote;

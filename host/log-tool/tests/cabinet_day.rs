@@ -107,7 +107,8 @@ fn the_planned_alarm_rings_first_at_the_record_that_the_comment_says() {
     let digits: String = said.chars().take_while(char::is_ascii_digit).collect();
     let n: usize = digits.parse().unwrap();
     let steps = steps();
-    assert_eq!(starts(&steps, |m| real_time(m) & FAN_1 != 0), [n]);
+    // It recovers at 17:40, and is slow again eight records after the first.
+    assert_eq!(starts(&steps, |m| real_time(m) & FAN_1 != 0), [n, n + 8]);
     // The comment stands above the line of that record.
     let next = said
         .lines()
@@ -186,8 +187,13 @@ fn what_rings_is_what_the_comments_tell() {
     let rung = |bits: u16| starts(&steps, |m| status(m) & bits != 0).len();
     assert_eq!(rung(SENSOR_2), 2);
     assert_eq!(rung(CHASSIS), 1);
-    // At 17:20, and again after the poll that clears it.
+    // At 17:20; and at 17:40, after the poll, when the fan recovers. Not while it stays
+    // slow.
     assert_eq!(rung(FAN_1), 2);
+    let slow = starts(&steps, |m| real_time(m) & FAN_1 != 0);
+    let recovered = starts(&steps[slow[0]..], |m| real_time(m) & FAN_1 == 0);
+    let latched = starts(&steps, |m| status(m) & FAN_1 != 0);
+    assert_eq!(latched, [slow[0], slow[0] + recovered[0]]);
     assert_eq!(rung(!(SENSOR_2 | CHASSIS | FAN_1)), 0);
 
     let hot = starts(&steps, |m| status(m) & SENSOR_2 != 0);

@@ -110,7 +110,8 @@ fn some_hours() -> Vec<u8> {
             [-256, 0],
             [306, 4_294_967_295, 7],
         ),
-        // Latched: VCOREA, which is low; +5, +12. Sensor 1 is as hot as before.
+        // Latched: VCOREA, which is low; +5, +12; fan 1, which is no longer slow. Sensor
+        // 1 is as hot as before.
         sample([99, 0, 0, 3, 4, 0, 0], 61, [-256, -1], [305, 0, 9]),
         // The second finds the bit set already, and latches it as well.
         chassis(),
@@ -118,7 +119,7 @@ fn some_hours() -> Vec<u8> {
         // It clears what was latched, and no count.
         read(0x41),
         // Latched: VCOREA, which is high; VINR0, -12, -5; sensor 1, which is below its
-        // hysteresis; sensor 2; fan 1. Not the chassis bit, which is still set.
+        // hysteresis; sensor 2; fan 1, slow again. Not the chassis bit, which is still set.
         sample(
             [201, 2, 0, 0, 0, 5, 6],
             -1,
@@ -134,7 +135,7 @@ fn some_hours() -> Vec<u8> {
 const SOME_HOURS: &str = "20 3 99 201 450\n21 3 0 2 3\n22 3 0 0 0\n23 3 0 3 6\n24 3 0 4 4\n\
     25 3 0 5 10\n26 3 0 6 6\n27 3 -1 61 121\n28 3 305 4294967295 4294967906\n\
     29 3 0 4294967295 4294967601\n2A 3 0 9 16\n1.50 3 -256 255 -257\n2.50 3 -1 1 0\n\
-    41.0 2\n41.1 2\n41.2 0\n41.3 2\n41.4 2\n41.5 1\n41.6 2\n41.7 0\n\
+    41.0 2\n41.1 2\n41.2 0\n41.3 2\n41.4 2\n41.5 1\n41.6 3\n41.7 0\n\
     42.0 1\n42.1 2\n42.2 1\n42.3 0\n42.4 2\n42.5 0\n";
 
 /// A sample and a chassis event, both good, that would change every figure.
@@ -408,12 +409,13 @@ fn the_largest_sums_of_a_day_are_told() {
         ("2A", "99999 4294967295 4294967295 429492434532705"),
         ("1.50", "99999 -256 -256 -25599744"),
         ("2.50", "99999 255 255 25499745"),
-        // Limits are 0: every code is high and every fan slow, sensor 1 never hot.
+        // Limits are 0: every code is high, every fan gets slow at the first sample and
+        // stays slow, sensor 1 is never hot.
         ("41.0", "99999"),
         ("41.4", "0"),
-        ("41.6", "99999"),
+        ("41.6", "1"),
         ("42.2", "99999"),
-        ("42.3", "99999"),
+        ("42.3", "1"),
         ("42.4", "0"),
         ("end", "0 100000"),
     ] {

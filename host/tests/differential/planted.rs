@@ -156,6 +156,75 @@ fn low_bits_kept_by_sample(image: &mut Image, call: &Call) -> Answer {
     answer
 }
 
+/// 59h and 5Ah of bank 4, and 41h and 42h, with the bits of the fans there.
+const FAN_BITS: [(usize, usize, u8); 2] = [
+    (cell(4, 0x59), cell(0, 0x41), 0xC0),
+    (cell(4, 0x5A), cell(0, 0x42), 0x08),
+];
+
+fn accepted_sample(call: &Call, answer: Answer) -> bool {
+    matches!(call, Call::Sample(_)) && answer.0 == 0
+}
+
+fn fan_latched_at_every_slow_sample(image: &mut Image, call: &Call) -> Answer {
+    let answer = library(image, call);
+    if accepted_sample(call, answer) {
+        for (real_time, status, fans) in FAN_BITS {
+            image[status] |= image[real_time] & fans;
+        }
+    }
+    answer
+}
+
+/// A fan that is no longer slow is not latched.
+fn fan_latched_by_its_rise_alone(image: &mut Image, call: &Call) -> Answer {
+    let before = *image;
+    let answer = library(image, call);
+    if accepted_sample(call, answer) {
+        for (real_time, status, fans) in FAN_BITS {
+            let fallen = before[real_time] & !image[real_time] & fans;
+            image[status] &= !fallen | before[status];
+        }
+    }
+    answer
+}
+
+/// A fan's condition is compared with its status bit.
+fn fan_compared_with_status(image: &mut Image, call: &Call) -> Answer {
+    let before = *image;
+    let answer = library(image, call);
+    if accepted_sample(call, answer) {
+        for (real_time, status, fans) in FAN_BITS {
+            let crossed = (image[real_time] ^ before[status]) & fans;
+            image[status] = image[status] & !fans | before[status] & fans | crossed;
+        }
+    }
+    answer
+}
+
+/// A fan's condition is compared with the bit that this sample leaves.
+fn fan_never_latched(image: &mut Image, call: &Call) -> Answer {
+    let before = *image;
+    let answer = library(image, call);
+    if accepted_sample(call, answer) {
+        for (_, status, fans) in FAN_BITS {
+            image[status] = image[status] & !fans | before[status] & fans;
+        }
+    }
+    answer
+}
+
+fn real_time_bits_kept_by_reset(image: &mut Image, call: &Call) -> Answer {
+    let before = *image;
+    let answer = library(image, call);
+    if resets(call) {
+        for (real_time, _, fans) in FAN_BITS {
+            image[real_time] |= before[real_time] & fans;
+        }
+    }
+    answer
+}
+
 fn byte_of_recorded_write(image: &mut Image, call: &Call) -> Answer {
     let answer = library(image, call);
     match call {
@@ -346,7 +415,7 @@ fn half_degree_lost(image: &Image) -> Looks {
 
 #[test]
 fn every_planted_fault_is_found() {
-    let faults: [(&str, CarryOut); 31] = [
+    let faults: [(&str, CarryOut); 36] = [
         ("chassis_cleared_by_read", chassis_cleared_by_read),
         ("all_of_47h_stored", all_of_47h_stored),
         ("aliases_banked", aliases_banked),
@@ -366,6 +435,17 @@ fn every_planted_fault_is_found() {
         ("one_mark_for_both", one_mark_for_both),
         ("armed_by_mode_write", armed_by_mode_write),
         ("low_bits_kept_by_sample", low_bits_kept_by_sample),
+        (
+            "fan_latched_at_every_slow_sample",
+            fan_latched_at_every_slow_sample,
+        ),
+        (
+            "fan_latched_by_its_rise_alone",
+            fan_latched_by_its_rise_alone,
+        ),
+        ("fan_compared_with_status", fan_compared_with_status),
+        ("fan_never_latched", fan_never_latched),
+        ("real_time_bits_kept_by_reset", real_time_bits_kept_by_reset),
         ("byte_of_recorded_write", byte_of_recorded_write),
         ("replay_taken_back", replay_taken_back),
         ("part_of_a_record_passed_over", part_of_a_record_passed_over),

@@ -367,22 +367,39 @@ fn actions() -> Vec<Call> {
 
 /// Every list of so many actions, a common beginning walked once; gives the
 /// number of calls made.
-fn walk(start: &Image, so_far: &(Expected, Image), path: &mut Vec<Call>, more: usize) -> u64 {
+fn walk(actions: &[Call], start: &Image, more: u32, origin: &str) -> u64 {
+    let before = (Expected::of(start), *start);
+    walk_on(actions, start, &before, &mut Vec::new(), more, origin)
+}
+
+fn walk_on(
+    actions: &[Call],
+    start: &Image,
+    so_far: &(Expected, Image),
+    path: &mut Vec<Call>,
+    more: u32,
+    origin: &str,
+) -> u64 {
     if more == 0 {
         return 0;
     }
     let mut calls = 0;
-    for action in actions() {
+    for action in actions {
         let (mut expected, mut found) = so_far.clone();
-        let alike = step(LIBRARY, &mut expected, &mut found, &action);
-        path.push(action);
+        let alike = step(LIBRARY, &mut expected, &mut found, action);
+        path.push(action.clone());
         if !alike {
-            report::hold(LIBRARY, start, path, "excursion");
+            report::hold(LIBRARY, start, path, origin);
         }
-        calls += 1 + walk(start, &(expected, found), path, more - 1);
+        calls += 1 + walk_on(actions, start, &(expected, found), path, more - 1, origin);
         path.pop();
     }
     calls
+}
+
+/// The number of lists of 1 to so many actions.
+fn lists(actions: &[Call], most: u32) -> u64 {
+    (1..=most).map(|n| (actions.len() as u64).pow(n)).sum()
 }
 
 /// All limits at 80 and 75 degrees, in the bank of sensor 2 and of sensor 3, with
@@ -397,11 +414,57 @@ fn every_short_excursion_agrees() {
             start[cell(0, 0x40)] = 0x03;
             start[cell(0, 0x4E)] = bank;
             start[CHASSIS + 1..][..7].fill(flags);
-            let before = (Expected::of(&start), start);
-            assert_eq!(
-                walk(&start, &before, &mut Vec::new(), 4),
-                18 + 18 * 18 + 18 * 18 * 18 + 18 * 18 * 18 * 18
-            );
+            let origin = format!("bank {bank}, flags {flags}");
+            assert_eq!(walk(&actions(), &start, 4, &origin), lists(&actions(), 4));
+        }
+    }
+}
+
+/// One fan slow, the others not; none slow; limits, divisors and plans that move the
+/// alarm across the count; reads that clear, and one that doesn't; a sample that is
+/// refused; chassis; reset; stop and start.
+fn fan_actions(fan: u8) -> Vec<Call> {
+    let place = usize::from(fan) - 1;
+    let sample = |u| {
+        let mut sample = CALM;
+        sample.u[place] = u;
+        Call::Sample(sample)
+    };
+    let read = |index| Call::Read { index };
+    vec![
+        sample(305),
+        sample(306),
+        Call::Sample(Sample { t2: 256, ..CALM }),
+        write(0x3A + fan, 152),
+        write(0x3A + fan, 255),
+        write(0x47, 0xA0),
+        write(0x4B, 0x84),
+        write(0x5D, 0xE0),
+        Call::SetPlan { fan, rpm: 4_400 },
+        read(0x41),
+        read(0x42),
+        read(0x59),
+        Call::ChassisOpened,
+        write(0x40, 0x80),
+        write(0x40, 0x02),
+        write(0x40, 0x03),
+    ]
+}
+
+/// Every fan at a limit of 152 with divisor 2, its real-time bit set or not and so the
+/// bits beside it, in bank 4.
+#[test]
+fn every_short_list_around_a_fans_crossing_agrees() {
+    for fan in 1..=3 {
+        for before in [0x00, 0xFF] {
+            let mut start = calm_limits(power_on());
+            start[cell(0, 0x3B)..][..3].fill(152);
+            start[cell(0, 0x40)] = 0x03;
+            start[cell(0, 0x4E)] = 4;
+            start[cell(4, 0x59)..][..2].fill(before);
+            let actions = fan_actions(fan);
+            let origin = format!("fan {fan}, real-time bits {before:02X}h");
+            assert_eq!(walk(&actions, &start, 4, &origin), lists(&actions, 4));
         }
     }
 }

@@ -1,4 +1,4 @@
-//! "What a sample does" of document 01.
+//! "What a sample does" of document 01, as request C-14 amends it.
 
 use super::map::cell;
 use super::monitor::{Monitor, CONFIGURATION, REAL_TIME, STATUS};
@@ -66,6 +66,18 @@ const SMI_MASK: [usize; 2] = [cell(0, 0x43), cell(0, 0x44)];
 const OVT_CONFIGURATION: [usize; 2] = [cell(1, 0x52), cell(2, 0x52)];
 const IRQ_OVT_PROPERTY: usize = cell(0, 0x4C);
 
+/// "A fan's status bit is latched at a sample when its condition differs from the
+/// real-time bit that the sample before left" (C-14).
+fn crossings(before: u16, now: u16) -> u16 {
+    let mut crossed = 0;
+    for bit in FAN_BIT {
+        if before >> bit & 1 != now >> bit & 1 {
+            crossed |= 1 << bit;
+        }
+    }
+    crossed
+}
+
 impl Monitor {
     /// Sample.
     pub fn sample(&mut self, sample: &Sample) -> u8 {
@@ -77,11 +89,13 @@ impl Monitor {
             return NOT_MONITORING;
         }
         // "It stores seven codes, three temperatures and three fan counts, sets
-        // the real-time bits, then latches status."
+        // the real-time bits, then latches status": what the sample before left is
+        // kept for the last of these.
         self.store(sample);
-        let voltages_and_fans = self.voltages_and_fans();
-        self.set_real_time(voltages_and_fans);
-        self.latch_status(voltages_and_fans);
+        let before = REAL_TIME.map(|register| self.registers[register]);
+        let (voltages, fans) = (self.voltages(), self.fans());
+        self.set_real_time(voltages | fans);
+        self.latch_status(voltages | crossings(u16::from_le_bytes(before), fans));
         for sensor in 0..2 {
             self.step_ovt(sensor);
         }
@@ -152,10 +166,10 @@ impl Monitor {
         }
     }
 
-    /// "Then latches status." "Voltages and fans latch their bit at each sample
-    /// where the condition holds."
-    fn latch_status(&mut self, voltages_and_fans: u16) {
-        let mut bits = voltages_and_fans;
+    /// "Then latches status." Voltages "latch their bit at each sample where the
+    /// condition holds".
+    fn latch_status(&mut self, voltages_and_crossings: u16) {
+        let mut bits = voltages_and_crossings;
         for (sensor, bit) in SENSOR_BIT.iter().enumerate() {
             bits |= u16::from(self.step_status(sensor)) << bit;
         }
@@ -164,12 +178,18 @@ impl Monitor {
         }
     }
 
-    /// The conditions of voltages and fans, each at its bit.
-    fn voltages_and_fans(&self) -> u16 {
+    /// The conditions of the voltages, each at its bit.
+    fn voltages(&self) -> u16 {
         let mut bits = 0;
         for (channel, bit) in VOLTAGE_BIT.iter().enumerate() {
             bits |= u16::from(self.voltage_outside(channel)) << bit;
         }
+        bits
+    }
+
+    /// The conditions of the fans, each at its bit.
+    fn fans(&self) -> u16 {
+        let mut bits = 0;
         for (fan, bit) in FAN_BIT.iter().enumerate() {
             bits |= u16::from(self.count_above_limit(fan)) << bit;
         }

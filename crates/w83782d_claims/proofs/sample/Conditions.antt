@@ -1,7 +1,7 @@
 -- The conditions of the readings stored are those of the sample's own values: each
 -- reading is what was stored, each limit what it was. Assumes nothing.
 use mathlib.Core.Path.{_≡_, refl, ap, ap₂, _∙_}
-use mathlib.Core.Bool.{Bool, true, false}
+use mathlib.Core.Bool.{Bool, true, false, xor}
 use mathlib.Core.List.{List, [], _∷_, map}
 use Prim.Native.Nat.{ℕ, zero, suc, _+_, _<_, _≤_, max}
 use native.Mathlib.Omega.{arith}
@@ -9,10 +9,10 @@ use borrow.Author.Tests.{lt-ltb}
 use mir.Val.{SFits}
 use mir.Syntax.{w8}
 use lib.Bits.{bitOr}
-use lib.Dec.{ltb, lit<, lit≤}
+use lib.Dec.{eqb, ltb, lit<, lit≤}
 use lib.IntN.{ℤ, pos, negsuc}
 use lib.ListN.{getD, length}
-use Rattle.bits.specs.Bits.{bit, flagOf}
+use Rattle.bits.specs.Bits.{bit, isOn, choose, flagOf}
 use Rattle.bits.proofs.BitLaws.{or-bit}
 use Rattle.bits.proofs.Flags.{word-bit}
 use Rattle.bits.proofs.Stores.{lastOf, cellsOf, isOf}
@@ -38,7 +38,8 @@ use Rattle.w83782d_store.specs.Stored.{sampledCode, sampledHalves, storedCount,
 use Rattle.w83782d_conditions.specs.Conditions.{isOutside, isAbove, isBelow, isSlow, statusMode, outputMode}
 use Rattle.w83782d_conditions.proofs.Rules.{not-one}
 use Rattle.w83782d_sample.specs.Sample.{Source, firstByte, secondByte, statusAt, outputAt, remoteAfter}
-use Rattle.w83782d_sample.specs.Sample.{condition, latchedBy, statusStores, latchedByte, steppedLatches, sampleOf}
+use Rattle.w83782d_sample.specs.Sample.{condition, fanCell, fanBit, wasSlow, latchedBy, latchedByte}
+use Rattle.w83782d_sample.specs.Sample.{statusStores, steppedLatches, sampleOf}
 use Rattle.w83782d_sample.specs.Sample.Source.{rail, sensor, fan, chassis}
 use Rattle.w83782d_claims.specs.BusClaims.{cellIn}
 use Rattle.w83782d_claims.specs.Sampled.{halvesAt, isBeside, isHotter, isColder, isSlower, holdsFor, flagAt}
@@ -81,10 +82,19 @@ module _ (s : State) (x : Sample) (w : length (s .registers) ≡ cells) where
   unfolding isOutside isBeside
   rail-is i h g m n = simp (at (voltage i) h ∙ g, kept (highLimit i) m, kept (lowLimit i) n)
 
-  fan-is : (f : ℕ) → fanCount f < cells → given (fanCount f) ≡ storedCount (s .registers) x f → stays (fanLimit f)
+  pub fan-is : (f : ℕ) → fanCount f < cells → given (fanCount f) ≡ storedCount (s .registers) x f → stays (fanLimit f)
       → isSlow t f ≡ isSlower (s .registers) x f
   unfolding isSlow isSlower
   fan-is f h g n = simp (at (fanCount f) h ∙ g, kept (fanLimit f) n)
+
+  -- the real-time bits are not yet set
+  still : (second : Bool) → stays (choose second realTimeStatus2 realTimeStatus1)
+  still true = refl
+  still false = refl
+
+  pub was-slow : (f : ℕ) → wasSlow t f ≡ wasSlow (s .registers) f
+  unfolding wasSlow
+  was-slow f = ap (λ (b : ℕ). isOn b (fanBit f)) (kept (fanCell f) (still (eqb f 3)))
 
   -- ---- sensor 1
   module _ (b : (c : ℕ) → cellIn s c < 256) (fits : Fits x) where
@@ -309,13 +319,13 @@ module _ (s : State) (x : Sample) (w : length (s .registers) ≡ cells) (b : (c 
   module _ (fits : Fits x) where
     pub latched-first : map (latchedBy (t s x w) (s .latches)) firstByte ≡ map (latchesFor s x) firstByte
     latched-first =
-        first-same (latchedBy (t s x w) (s .latches)) (latchesFor s x) (λ i e. e) (λ n e. e)
+        first-same (latchedBy (t s x w) (s .latches)) (latchesFor s x) (λ i e. e) (λ n e. ap₂ xor e (was-slow s x w n))
         (ap (λ (y : Status). y .latched) (status-1 fits))
         (latched-n 2 (lit≤ tt) (lit≤ tt)) (latched-n 3 (lit≤ tt) (lit≤ tt)) refl
 
     pub latched-second : map (latchedBy (t s x w) (s .latches)) secondByte ≡ map (latchesFor s x) secondByte
     latched-second =
-        second-same (latchedBy (t s x w) (s .latches)) (latchesFor s x) (λ i e. e) (λ n e. e)
+        second-same (latchedBy (t s x w) (s .latches)) (latchesFor s x) (λ i e. e) (λ n e. ap₂ xor e (was-slow s x w n))
         (ap (λ (y : Status). y .latched) (status-1 fits))
         (latched-n 2 (lit≤ tt) (lit≤ tt)) (latched-n 3 (lit≤ tt) (lit≤ tt)) refl
 

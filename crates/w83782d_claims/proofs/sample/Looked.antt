@@ -1,7 +1,7 @@
 -- What a sample looks at: two states that are the same there find the same conditions, latch the same and step
 -- alike. It looks at no bit without a rule, and not at 41h and 42h, into which it latches. Assumes nothing.
-use mathlib.Core.Path.{_≡_, refl, ap, sym, subst, _∙_}
-use mathlib.Core.Bool.{Bool, true, false, not, _||_, false≢true}
+use mathlib.Core.Path.{_≡_, refl, ap, ap₂, sym, subst, _∙_}
+use mathlib.Core.Bool.{Bool, true, false, not, _||_, xor, false≢true}
 use mathlib.Core.List.{List, map}
 use Prim.Native.Nat.{ℕ, _+_, _-_, _<_, _≤_}
 use lib.Dec.{eqb, ltb, lit<, lit≤}
@@ -22,15 +22,16 @@ use Rattle.w83782d_latches.specs.declared.Latches.{Latches}
 use Rattle.w83782d_map.specs.Map.{cells}
 use Rattle.w83782d_map.specs.Cells.{bankCell, configuration, fanCount, fanLimit, highLimit}
 use Rattle.w83782d_map.specs.Cells.{interruptStatus1, interruptStatus2, lowLimit, ovtProperty, sensor1Hysteresis}
-use Rattle.w83782d_map.specs.Cells.{sensor1Over, sensor1Value, voltage}
+use Rattle.w83782d_map.specs.Cells.{realTimeStatus1, realTimeStatus2, sensor1Over, sensor1Value, voltage}
 use Rattle.w83782d_registers.specs.Registers.{isInterrupt}
 use Rattle.w83782d_registers.proofs.Cases.{both}
 use Rattle.w83782d_store.specs.Stored.{none, divisorPlaces, divisorOf, storedCount}
 use Rattle.w83782d_store.specs.Stored.{readings, storedReadings, sampleAnswer}
 use Rattle.w83782d_conditions.specs.Conditions.{isOutside, isAbove, isBelow, isSlow, statusMode, outputMode}
 use Rattle.w83782d_conditions.proofs.Rules.{not-one}
-use Rattle.w83782d_sample.specs.Sample.{Source, condition, firstByte, secondByte, statusAt, outputAt}
-use Rattle.w83782d_sample.specs.Sample.{remoteAfter, realTimeByte, latchedBy, latchedByte, statusStores, steppedLatches}
+use Rattle.w83782d_sample.specs.Sample.{Source, condition, firstByte, secondByte, fanCell, fanBit, wasSlow}
+use Rattle.w83782d_sample.specs.Sample.{statusAt, outputAt, remoteAfter, realTimeByte, latchedBy, latchedByte}
+use Rattle.w83782d_sample.specs.Sample.{statusStores, steppedLatches}
 use Rattle.w83782d_sample.specs.Sample.Source.{rail, sensor, fan, chassis}
 use Rattle.w83782d_claims.specs.SampleClaims.{ruleless}
 
@@ -85,6 +86,15 @@ module _ (rs ts : List ℕ) (e : Seen rs ts) where
   slow-same : (f : ℕ) → plain (fanCount f) ≡ true → plain (fanLimit f) ≡ true → isSlow rs f ≡ isSlow ts f
   unfolding isSlow
   slow-same f p q = rw (e .cell (fanCount f) p, e .cell (fanLimit f) q)
+
+  real-plain : (second : Bool) → plain (choose second realTimeStatus2 realTimeStatus1) ≡ true
+  unfolding ruleless
+  real-plain true = refl
+  real-plain false = refl
+
+  was-same : (f : ℕ) → wasSlow rs f ≡ wasSlow ts f
+  unfolding wasSlow
+  was-same f = ap (λ (b : ℕ). isOn b (fanBit f)) (e .cell (fanCell f) (real-plain (eqb f 3)))
 
   above-1 : isAbove rs 1 ≡ isAbove ts 1
   unfolding isAbove ruleless
@@ -193,12 +203,12 @@ module _ (rs ts : List ℕ) (e : Seen rs ts) where
 
     pub latched-1 : latchedByte rs l firstByte ≡ latchedByte ts l firstByte
     latched-1 =
-        first-same (latchedBy rs l) (latchedBy ts l) (λ i e. e) (λ n e. e) one-latched
+        first-same (latchedBy rs l) (latchedBy ts l) (λ i e. e) (λ n e. ap₂ xor e (was-same n)) one-latched
         (remote-latched 2 (lit≤ tt) (lit≤ tt)) (remote-latched 3 (lit≤ tt) (lit≤ tt)) refl
 
     pub latched-2 : latchedByte rs l secondByte ≡ latchedByte ts l secondByte
     latched-2 =
-        second-same (latchedBy rs l) (latchedBy ts l) (λ i e. e) (λ n e. e) one-latched
+        second-same (latchedBy rs l) (latchedBy ts l) (λ i e. e) (λ n e. ap₂ xor e (was-same n)) one-latched
         (remote-latched 2 (lit≤ tt) (lit≤ tt)) (remote-latched 3 (lit≤ tt) (lit≤ tt)) refl
 
   -- ---- the stores of status and real-time bits, where 41h and 42h are the same too

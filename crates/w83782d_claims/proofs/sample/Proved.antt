@@ -10,6 +10,7 @@ use Rattle.w83782d_claims.proofs.sample.Stores.{frame}
 use Rattle.w83782d_claims.proofs.sample.Answers.{refused}
 use Rattle.w83782d_claims.proofs.sample.Conditions.{fits-byte, stores, fan-rings}
 use Rattle.w83782d_claims.proofs.sample.Conditions.{real-time, status-or, latches-after}
+use Rattle.w83782d_claims.proofs.sample.Crossings.{crossings}
 use Rattle.w83782d_claims.proofs.sample.Smi.{smi-exactly, standby}
 use Rattle.w83782d_claims.proofs.sample.Stored.{stored-only}
 use Rattle.w83782d_claims.proofs.sample.Reading.{read-alike}
@@ -24,6 +25,7 @@ sample-claims s x w f =
       fanRings = fan-rings s x (w .count);
       realTime = λ a. real-time s x (w .count) (w .bytes) a fits;
       statusOr = λ a. status-or s x (w .count) (w .bytes) a fits;
+      crossings = crossings s x (w .count);
       latchesAfter = λ a. latches-after s x (w .count) (w .bytes) a fits;
       smiExactly = smi-exactly s w;
       standby = standby s w;

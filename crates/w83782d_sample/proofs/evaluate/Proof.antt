@@ -27,6 +27,18 @@ sensors-requires c κs = search needs
 sensors-requires-2 : tie.Need-sensors-requires-2
 sensors-requires-2 c κs = search needs
 
+shared-slice-read-crossed : tie.Need-shared-slice-read-crossed
+shared-slice-read-crossed c = search needs
+
+crossed-requires : tie.Need-crossed-requires
+crossed-requires c κs = search needs
+
+shared-slice-read-crossed-2 : tie.Need-shared-slice-read-crossed-2
+shared-slice-read-crossed-2 c = search needs
+
+crossed-requires-2 : tie.Need-crossed-requires-2
+crossed-requires-2 c κs = search needs
+
 sensors-requires-3 : tie.Need-sensors-requires-3
 sensors-requires-3 c κs = search needs
 
@@ -37,15 +49,18 @@ returns : tie.Need-returns
 returns c =
     let latched2 = c .before .before in
     let latched1 = latched2 .before in
-    let real2 = latched1 .before in
+    let crossed2 = latched1 .before in
+    let crossed1 = crossed2 .before .before in
+    let real2 = crossed1 .before .before in
     let real1 = real2 .before in
     let three = real1 .before in
     let two = three .before in
     let one = two .before in
     let found = one .before .before .before .before in
-    evaluation _ _ _ _ _ _ _ _ _ _ (found .before .before .before .before .pre) (found .compare .ensures)
+    evaluation _ _ _ _ _ _ _ _ _ _ _ _ (found .before .before .before .before .pre) (found .compare .ensures)
     (one .status-step .ensures) (two .remote-step .ensures) (three .remote-step2 .ensures)
-    (real1 .sensors .ensures) (real2 .sensors2 .ensures) (latched1 .sensors3 .ensures) (latched2 .sensors4 .ensures)
+    (real1 .sensors .ensures) (real2 .sensors2 .ensures) (crossed1 .crossed .ensures .0)
+    (crossed2 .crossed2 .ensures .0) (latched1 .sensors3 .ensures) (latched2 .sensors4 .ensures)
 
 pub evaluate-spec : {M : Type 1} → statement M
 evaluate-spec =
@@ -59,6 +74,10 @@ evaluate-spec =
     remote-step-requires-2
     sensors-requires
     sensors-requires-2
+    shared-slice-read-crossed
+    crossed-requires
+    shared-slice-read-crossed-2
+    crossed-requires-2
     sensors-requires-3
     sensors-requires-4
     returns)

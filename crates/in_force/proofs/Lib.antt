@@ -1,4 +1,3 @@
-pub mod settings
 pub mod Force
 pub mod Lists
 pub mod Writes

@@ -14,8 +14,8 @@ use Rattle.fan.specs.Plan.{planRings, ringsAt}
 use Rattle.fan.specs.Search.{planOf}
 use Rattle.fan.specs.declared.planner.Planned.{Planned}
 use Rattle.fan.specs.declared.planner.Planned.the-variants.{Plan, Refused}
-use Rattle.in_force.specs.Settings.{Fan, limitIn, divisorIn, settings}
-use Rattle.in_force.specs.SettingsClaims.{PlanSet}
+use Rattle.fan_settings.specs.Settings.{Fan, limitIn, divisorIn, settings}
+use Rattle.fan_settings.specs.SettingsClaims.{PlanSet}
 use Rattle.in_force.specs.InForce.{Force, none, plan, Machine, Found, found, next, afterAll, InForce, rewritten}
 
 -- ---- what a call is to a plan in force

@@ -1,5 +1,3 @@
-pub mod Settings
-pub mod SettingsClaims
 pub mod InForce
 pub mod Chip
 pub mod Laws

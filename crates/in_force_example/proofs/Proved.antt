@@ -16,8 +16,8 @@ use Rattle.bits.proofs.ChangeLaws.{changes-length}
 use Rattle.bits.specs.Fields.{digitsOf, isIn, distinct, inside, apart}
 use Rattle.bits.specs.declared.fields.Place.{Place}
 use Rattle.fan.specs.declared.Divisor.{Divisor}
-use Rattle.in_force.specs.Settings.{hasCell, isSound, isApart, plannedRegisters}
-use Rattle.in_force.proofs.settings.Settings.{all-sound, all-apart, put, put-length, put-other}
+use Rattle.fan_settings.specs.Settings.{hasCell, isSound, isApart, plannedRegisters}
+use Rattle.fan_settings.proofs.Settings.{all-sound, all-apart, put, put-length, put-other}
 use Rattle.fan.specs.Search.{planOf}
 use Rattle.fan.specs.declared.planner.Planned.{Planned}
 use Rattle.fan.specs.declared.planner.Planned.the-variants.{Plan, Refused}

@@ -15,7 +15,7 @@ use Rattle.bits.specs.declared.fields.Place.{Place}
 use Rattle.fan.specs.Count.{valueOf}
 use Rattle.fan.specs.Plan.{ringsAt, planAnswer}
 use Rattle.fan.specs.Search.{planOf}
-use Rattle.in_force.specs.Settings.{Fan, fanAt, limitIn, divisorIn, plannedRegisters}
+use Rattle.fan_settings.specs.Settings.{Fan, fanAt, limitIn, divisorIn, plannedRegisters}
 use Rattle.in_force.specs.Chip as chip
 use Rattle.in_force.specs.Chip.{Kind, reset, writing, planning, sampling, other, Chip}
 

@@ -7,7 +7,7 @@ use borrow.Author.Tests.{eq-eqb, ne-eqb, lt-ltb, le-ltb}
 use lib.ListN.{length}
 use Rattle.bits.specs.Fields.{placesOf}
 use Rattle.bits.specs.declared.fields.Field.{Field}
-use Rattle.in_force.specs.Settings.{fanAt, plannedRegisters}
+use Rattle.fan_settings.specs.Settings.{fanAt, plannedRegisters}
 use Rattle.fan.specs.Plan.{planAnswer}
 use Rattle.fan.specs.Search.{planOf}
 use Rattle.fan.specs.declared.planner.Planned.{Planned}

@@ -2,7 +2,7 @@
 use Prim.Native.Nat.{ℕ}
 use Rattle.answers.specs.Answers as answers
 use Rattle.bits.specs.Bits.{choose, isBeyond}
-use Rattle.in_force.specs.Settings.{Fan, fanAt, plannedRegisters}
+use Rattle.fan_settings.specs.Settings.{Fan, fanAt, plannedRegisters}
 use Rattle.fan.specs.Plan.{planAnswer}
 use Rattle.fan.specs.Search.{planOf}
 use Rattle.w83782d_bus.specs.Bus.{State, state, Written, written}

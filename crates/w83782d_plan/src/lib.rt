@@ -5,7 +5,7 @@ ghost use Rattle.w83782d_plan.specs.Plan.{setPlanOf};
 use answers::NO_CHANNEL;
 use answers::WRONG_LENGTH;
 use fan::planner::plan;
-use in_force::plan_bits::put_plan;
+use fan_settings::put_plan;
 use w83782d_bus::Outcome;
 use w83782d_latches::Latches;
 use w83782d_map::CELLS;

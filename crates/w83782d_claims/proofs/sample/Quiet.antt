@@ -11,7 +11,7 @@ use lib.Dec.{eqb}
 use lib.ListN.{getD}
 use Rattle.bits.specs.Bits.{bit, isOn, choose}
 use Rattle.bits.proofs.ChangeLaws.{and-left, and-right}
-use Rattle.in_force.proofs.settings.Settings.{put}
+use Rattle.fan_settings.proofs.Settings.{put}
 use Rattle.w83782d_layout.specs.declared.samples.Sample.{Sample}
 use Rattle.w83782d_map.specs.Map.{rows, presentAt, writableAt}
 use Rattle.w83782d_map.specs.Cells.{interruptStatus1, interruptStatus2, realTimeStatus1, realTimeStatus2}

@@ -1,8 +1,9 @@
-// A plan put in the registers, in place on their slice, wherever its fan's settings lie.
+// Where a fan's limit and divisor are in the registers, and setting them by a plan, in place on the registers' slice.
+// Nothing here is of one chip.
 ghost use mathlib.Core.Path.{_≡_};
 ghost use Rattle.bits.specs.Fields.{placesOf};
 ghost use Rattle.fan.specs.Plan.{planAnswer};
-ghost use Rattle.in_force.specs.Settings.{fanAt, plannedRegisters};
+ghost use Rattle.fan_settings.specs.Settings.{fanAt, plannedRegisters};
 use answers::ACCEPTED;
 use answers::BAD_SPEED;
 use bits::fields::Field;

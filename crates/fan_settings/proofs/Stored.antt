@@ -8,7 +8,7 @@ use Rattle.bits.specs.Fields.{placesOf}
 use Rattle.bits.specs.declared.fields.Field.{Field}
 use Rattle.fan.specs.Divisors.{withDivisor}
 use Rattle.fan.specs.declared.Divisor.{Divisor}
-use Rattle.in_force.specs.Settings.{fanAt, plannedRegisters}
+use Rattle.fan_settings.specs.Settings.{fanAt, plannedRegisters}
 use Rattle.fan.specs.Plan.{planAnswer}
 use Rattle.fan.specs.declared.planner.Planned.{Planned}
 use Rattle.fan.specs.declared.planner.Planned.the-variants.{Plan}

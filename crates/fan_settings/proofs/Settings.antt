@@ -31,9 +31,9 @@ use Rattle.fan.specs.Search.{planOf}
 use Rattle.fan.specs.declared.planner.Planned.{Planned}
 use Rattle.fan.specs.declared.planner.Planned.the-variants.{Plan, Refused}
 use Rattle.fan.proofs.planner.Planning.{plan-of-is}
-use Rattle.in_force.specs.Settings.{Fan, fanAt, limitIn, divisorIn, settings}
-use Rattle.in_force.specs.Settings.{setAnswer, hasCell, isSound, isApart}
-use Rattle.in_force.specs.SettingsClaims.{PlanSet}
+use Rattle.fan_settings.specs.Settings.{Fan, fanAt, limitIn, divisorIn, settings}
+use Rattle.fan_settings.specs.Settings.{setAnswer, hasCell, isSound, isApart}
+use Rattle.fan_settings.specs.SettingsClaims.{PlanSet}
 
 -- ---- computed: a fan whose divisor bits share their cells with others', as fan 1 of the
 -- W83782D has them, is given a plan where every bit is 1, and where every bit is 0

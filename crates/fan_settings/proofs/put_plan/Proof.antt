@@ -1,7 +1,7 @@
 use borrow.Author.Needs.{needs}
-use Rattle.in_force.proofs.plan_bits.Cases.{plan-put, plan-answered}
-use Rattle.in_force.proofs.plan_bits.put_plan.Statement.{statement}
-use Rattle.in_force.proofs.plan_bits.put_plan.Tie as tie
+use Rattle.fan_settings.proofs.Stored.{plan-put, plan-answered}
+use Rattle.fan_settings.proofs.put_plan.Statement.{statement}
+use Rattle.fan_settings.proofs.put_plan.Tie as tie
 
 enum-known-planned : tie.Need-enum-known-planned
 enum-known-planned c = search needs

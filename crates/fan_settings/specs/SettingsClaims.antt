@@ -12,7 +12,7 @@ use Rattle.fan.specs.declared.Divisor.{Divisor}
 use Rattle.fan.specs.Plan.{IsPlan}
 use Rattle.fan.specs.Search.{planOf}
 use Rattle.fan.specs.declared.planner.Planned.the-variants.{Plan}
-use Rattle.in_force.specs.Settings.{Fan, limitIn, divisorIn}
+use Rattle.fan_settings.specs.Settings.{Fan, limitIn, divisorIn}
 
 -- the registers ts have the plan for w (P-2) on a fan, and differ from rs in nothing else
 pub record PlanSet (rs ts : List ℕ) (f : Fan) (w : ℕ) : Type 0 where

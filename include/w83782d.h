@@ -167,9 +167,10 @@ uint8_t w83782d_chassis_opened(uint8_t *image, size_t n);
  * sensor 1 in whole degrees, sensors 2 and 3 in half degrees, the undivided counts
  * of fans 1 to 3: 1,350,000 / rpm rounded down, UINT32_MAX for a fan that doesn't
  * turn. Stores them, sets the real-time bits, latches status and moves OVT. A fan's
- * status bit is latched when the fan gets slow and when it is no longer slow:
- * whether it was slow at the last accepted sample is its real-time bit (bank 4,
- * 59h and 5Ah).
+ * status bit is latched when the fan gets slow and when it is no longer slow: after
+ * a read of 41h or 42h a fan that stays slow doesn't assert SMI again, and one that
+ * recovers does. Whether it was slow at the last accepted sample is its real-time
+ * bit (bank 4, bits 6 and 7 of 59h, bit 3 of 5Ah), 0 after power-on and a reset.
  * Sensor 1 is -128 to 127: the caller holds a measurement beyond that at the nearer
  * end, since no answer can tell of it (130 as int8_t is -126, an alarm lost).
  * Answers 0, 8 (n, or v is not W83782D_VOLTAGES), 3 (t2 or t3 outside -256 to 255)
@@ -184,7 +185,8 @@ uint8_t w83782d_sample(uint8_t *image, size_t n, const uint8_t *volts, size_t v,
  * w83782d_speed reads), as w83782d_plan gives it, on fan 1 to 3: writes that fan's
  * count limit and its three divisor bits, and nothing else, whatever bank is
  * selected and whether or not monitoring is stopped. Stored counts and real-time
- * bits wait for the next sample. From then on an accepted sample sets the fan's
+ * bits wait for the next sample, which may then latch the fan's status bit, either
+ * way. From then on an accepted sample sets the fan's
  * real-time bit exactly when its undivided count is (limit + 1) * divisor or more,
  * until the first of these: a reset by 40h bit 7, an accepted write that gives a bit
  * of that fan's limit or divisor another value (either may come in a record too),

@@ -41,6 +41,7 @@ static const struct {
     {1, {{false, 0x41, 0}}},
 };
 static const int16_t sensor_2_half_degrees[SECONDS] = {80, 80, 81, 161, 149};
+/* Fan 1 is slow in the second second and recovers in the third: both latch its bit. */
 static const uint32_t fan_1_rpm[SECONDS] = {5000, 4400, 5000, 5000, 5000};
 static const uint8_t voltages[W83782D_VOLTAGES] = {100, 94, 206, 186, 197, 35, 54};
 

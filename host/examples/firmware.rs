@@ -241,6 +241,7 @@ mod board {
         &[Access::Read(0x41)],
     ];
     const SENSOR_2_HALF_DEGREES: [i16; 5] = [80, 80, 81, 161, 149];
+    /// Slow in the second second, recovered in the third: both latch its status bit.
     const FAN_1_RPM: [u32; 5] = [5_000, 4_400, 5_000, 5_000, 5_000];
 
     pub struct Board {

@@ -97,12 +97,15 @@ impl Monitor {
     }
 
     /// A sample: stores its readings, sets the real-time bits, latches status and
-    /// moves OVT. A fan's status bit is latched when the fan gets slow and when it is
-    /// no longer slow: whether it was slow at the last accepted sample is its
-    /// real-time bit (bank 4, 59h and 5Ah).
-    /// [`Refusal::BadTemperature`] or [`Refusal::NotMonitoring`] leaves
+    /// moves OVT. [`Refusal::BadTemperature`] or [`Refusal::NotMonitoring`] leaves
     /// the monitor as it was. A measurement of sensor 1 beyond -128 to 127 is held
     /// at the nearer end by the caller: `130 as i8` is -126, an alarm lost.
+    ///
+    /// A fan's status bit is latched when the fan gets slow and when it is no longer
+    /// slow: after a read of 41h or 42h a fan that stays slow doesn't assert SMI
+    /// again, and one that recovers does. Whether it was slow at the last accepted
+    /// sample is its real-time bit (bank 4, bits 6 and 7 of 59h, bit 3 of 5Ah), 0
+    /// after power-on and a reset.
     ///
     /// ```
     /// use w83782d::{Monitor, Refusal, Sample, Speed};
@@ -156,8 +159,8 @@ impl Monitor {
     /// [`Monitor::speed`] reads) on fan 1, 2 or 3: writes that fan's count limit and
     /// its three divisor bits, and nothing else, whatever bank is selected and
     /// whether or not monitoring is stopped. Stored counts and real-time bits wait
-    /// for the next sample. [`Refusal::NoChannel`] or
-    /// [`Refusal::BadSpeed`] leaves the monitor as it was.
+    /// for the next sample, which may then latch the fan's status bit, either way.
+    /// [`Refusal::NoChannel`] or [`Refusal::BadSpeed`] leaves the monitor as it was.
     ///
     /// From then on an accepted sample sets the fan's real-time bit exactly when
     /// its undivided count is (limit + 1) * divisor or more, until the first of

@@ -1,4 +1,4 @@
--- A crossing bit by bit: what is not in the mask is left as it is.
+-- A crossing bit by bit: what is not in `crossing` is left as it is.
 -- Assumes nothing.
 use mathlib.Core.Path.{_≡_, refl, ap, _∙_}
 use mathlib.Core.Bool.{Bool, true, false, xor}
@@ -12,7 +12,7 @@ use Rattle.bits.proofs.Every.{same-below2}
 use Rattle.status.specs.Status.{crossedOf}
 use Rattle.status.specs.Claims.{Crosses}
 
--- one bit: now, before and of the mask
+-- one bit: now, before and of `crossing`
 one-bit : (n b m : ℕ) → n < 2 → b < 2 → m < 2
     → differ n (min b m) ≡ flagOf (choose (eqb m 1) (xor (eqb n 1) (eqb b 1)) (eqb n 1))
 unfolding xor
@@ -23,11 +23,11 @@ one-bit n b (suc (suc m)) h k l = absurd (omega arith)
 
 pub crosses : Crosses
 unfolding crossedOf
-crosses before mask now j =
-    xor-bit now (bitAnd before mask) j
-    ∙ ap (differ (bit now j)) (and-bit before mask j)
-    ∙ one-bit (bit now j) (bit before j) (bit mask j) (bit-lt now j) (bit-lt before j) (bit-lt mask j)
+crosses before crossing now j =
+    xor-bit now (bitAnd before crossing) j
+    ∙ ap (differ (bit now j)) (and-bit before crossing j)
+    ∙ one-bit (bit now j) (bit before j) (bit crossing j) (bit-lt now j) (bit-lt before j) (bit-lt crossing j)
 
-pub crossed-lt : (before mask now : ℕ) → mask < 256 → now < 256 → crossedOf before mask now < 256
+pub crossed-lt : (before crossing now : ℕ) → crossing < 256 → now < 256 → crossedOf before crossing now < 256
 unfolding crossedOf
-crossed-lt before mask now h k = xor-lt 8 now (bitAnd before mask) k (omega (arith, and-le-r before mask))
+crossed-lt before crossing now h k = xor-lt 8 now (bitAnd before crossing) k (omega (arith, and-le-r before crossing))

@@ -27,9 +27,9 @@ pub record CountsSetBits : Type 0 where
   pub each : (s1 s2 : ℕ) → s1 < 256 → s2 < 256 → alarmCount s1 s2 ≡ setBits s1 + setBits s2
   pub none : (s1 s2 : ℕ) → s1 < 256 → s2 < 256 → (alarmCount s1 s2 ≡ 0) ↔ ((s1 ≡ 0) × (s2 ≡ 0))
 
--- ---- crossings: a condition of the mask counts where it has changed, either way; any other where it is true
+-- ---- crossings: a condition of `crossing` counts where it has changed, either way; any other where it is true
 abbrev pub Crosses : Type 0
 Crosses =
-    (before mask now j : ℕ)
-    → bit (crossedOf before mask now) j
-    ≡ flagOf (choose (isOn mask j) (xor (isOn now j) (isOn before j)) (isOn now j))
+    (before crossing now j : ℕ)
+    → bit (crossedOf before crossing now) j
+    ≡ flagOf (choose (isOn crossing j) (xor (isOn now j) (isOn before j)) (isOn now j))

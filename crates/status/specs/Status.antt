@@ -30,7 +30,7 @@ noBits = statusBits 0 0
 abbrev pub bitAfter : ℕ → ℕ → ℕ → ℕ → ℕ
 bitAfter was cleared latched j = max (choose (isOn cleared j) 0 was) (bit latched j)
 
--- ---- crossings (C-14): of a byte of conditions, those of the mask where they differ from the byte before, and every
+-- ---- crossings (C-14): of a byte of conditions, those of `crossing` where they differ from the byte before, and every
 -- other as it is
 unfoldable pub crossedOf : ℕ → ℕ → ℕ → ℕ
-crossedOf before mask now = bitXor now (bitAnd before mask)
+crossedOf before crossing now = bitXor now (bitAnd before crossing)

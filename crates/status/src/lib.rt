@@ -28,11 +28,11 @@ pub fn alarm_count(first: u8, second: u8) -> u32
     u8::count_ones(first) + u8::count_ones(second)
 }
 
-// What a byte of conditions latches where those of the mask latch on crossings: these where they differ from the byte
-// before, every other where it is true.
-pub fn crossed(before: u8, mask: u8, now: u8) -> u8
-    ensures equation { λ r. ⌜ r ≡ crossedOf before mask now ⌝ }
+// What a byte of conditions latches where some latch on crossings: the conditions of `crossing` where they differ from the
+// byte before, every other where it is true.
+pub fn crossed(before: u8, crossing: u8, now: u8) -> u8
+    ensures equation { λ r. ⌜ r ≡ crossedOf before crossing now ⌝ }
     ensures claims { λ r. ⌜ Crosses ⌝ }
 {
-    now ^ (before & mask)
+    now ^ (before & crossing)
 }

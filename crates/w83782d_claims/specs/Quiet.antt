@@ -1,4 +1,4 @@
--- Calls that leave the real-time bits: all but an accepted sample and a reset.
+-- Quiet calls: all but an accepted sample and a reset. They leave the fans' real-time bits (`leaves`: SampleClaims.antt).
 use mathlib.Core.Path.{_≡_}
 use mathlib.Core.Bool.{Bool, true, false, not, _&&_}
 use mathlib.Core.List.{List, [], _∷_, _++_}

@@ -1,6 +1,6 @@
 -- What is claimed of a sample, from every state of the monitor and for every sample, refused or not
 -- (rules S-1 to S-10, T, I, O). The definitions are those that the contracts cite (w83782d_conditions:
--- Conditions.antt; w83782d_sample: Stored.antt, Sample.antt; w83782d_readings: Outputs.antt).
+-- Conditions.antt; w83782d_store: Stored.antt; w83782d_sample: Sample.antt; w83782d_readings: Outputs.antt).
 use mathlib.Core.Path.{_≡_}
 use mathlib.Core.Bool.{Bool, true, false, not, _&&_, _||_, xor}
 use mathlib.Core.List.{List, [], _∷_}
@@ -123,20 +123,21 @@ pub record StatusOr (s : State) (x : Sample) : Type 0 where
   pub second : (j : ℕ) → bit (cellIn (after s x) interruptStatus2) j
       ≡ max (bit (cellIn s interruptStatus2) j) (flagAt (latchesFor s x) secondByte j)
 
--- ---- C-14: fans latch on crossings, in the words of their bits
+-- ---- C-14: fans latch on crossings, in the words of their bits, and of `latchesFor` where other calls come between
 
 -- a fan's bit of 41h or 42h, at the place that its real-time bit has in 59h or 5Ah
 abbrev pub fanStatusBit : State → ℕ → ℕ
 fanStatusBit s f = bit (cellIn s (choose (eqb f 3) interruptStatus2 interruptStatus1)) (fanBit f)
 
+-- its bit of 59h or 5Ah, in the cell: `realTimeBit` (Alarm.antt) is that bit as the bus shows it
 abbrev pub fanRealTimeBit : State → ℕ → ℕ
 fanRealTimeBit s f = bit (cellIn s (fanCell f)) (fanBit f)
 
--- its real-time bit is another one
+-- whether a fan's real-time bit differs in two states
 abbrev pub hasChanged : State → State → ℕ → Bool
 hasChanged s t f = not (eqb (fanRealTimeBit t f) (fanRealTimeBit s f))
 
--- of the first sample after a state: no accepted one and no reset in between
+-- the first accepted sample after a state, with no reset in between, latches exactly the fans that are slow at it
 abbrev pub FirstSample : State → Type 0
 FirstSample s =
     (since : List Call) → areQuiet s since ≡ true → (y : Sample) (f : ℕ) → 1 ≤ f → f ≤ 3
@@ -154,16 +155,17 @@ pub record Crossings (s : State) (x : Sample) : Type 0 where
   pub twice : sampleOf s x .answer ≡ 0 → (y : Sample) → sampleOf (after s x) y .answer ≡ 0 → (f : ℕ) → 1 ≤ f → f ≤ 3
       → fanStatusBit s f ≡ 0 → fanStatusBit (after (after s x) y) f
       ≡ flagOf (hasChanged s (after s x) f || hasChanged (after s x) (after (after s x) y) f)
-  -- calls that are no accepted sample and no reset leave a fan's real-time bit
+  -- quiet calls, all but an accepted sample and a reset, leave a fan's real-time bit
   pub quiet : QuietCalls s
   pub leaves : (since : List Call) → areQuiet s since ≡ true → (f : ℕ)
       → fanRealTimeBit (stateAfter s since) f ≡ fanRealTimeBit s f
-  -- so after an accepted sample and any such calls, a sample on the same side of the limit latches nothing of the fan
+  -- so after an accepted sample and any such calls, an accepted sample that finds the fan slow, or not slow, as that one
+  -- did latches nothing of it
   pub sameSide : sampleOf s x .answer ≡ 0 → (since : List Call) → areQuiet (after s x) since ≡ true
       → (y : Sample) (f : ℕ) → 1 ≤ f → f ≤ 3
       → isSlower (stateAfter (after s x) since .registers) y f ≡ isSlower (s .registers) x f
       → latchesFor (stateAfter (after s x) since) y (fan f) ≡ false
-  -- and after a reset or power-on and any such calls, a sample latches exactly the slow fans
+  -- and after a reset or power-on and any such calls, an accepted sample latches exactly the slow fans
   pub afterReset : (v : ℕ) → isOn v 7 ≡ true → FirstSample (writeOf s 0x40 v .state)
   pub afterPowerOn : FirstSample powerOn
 

@@ -117,7 +117,7 @@ joined a b c d e f g h =
     at (suc (suc (suc (suc (suc (suc (suc zero))))))) k = off-right h
     at (suc (suc (suc (suc (suc (suc (suc (suc j)))))))) k = absurd (omega arith)
 
--- ---- fans on crossings: flags, those of the mask compared with the bits of a byte; over the mask
+-- ---- fans on crossings: flags, those of `crossing` compared with the bits of a byte; over `crossing`
 on-flag : (b : Bool) → eqb (flagOf b) 1 ≡ b
 on-flag true = refl
 on-flag false = refl
@@ -136,21 +136,21 @@ eight-at f (suc (suc (suc (suc (suc (suc zero)))))) k = refl
 eight-at f (suc (suc (suc (suc (suc (suc (suc zero))))))) k = refl
 eight-at f (suc (suc (suc (suc (suc (suc (suc (suc j)))))))) k = absurd (omega arith)
 
-module _ (before mask : ℕ) (bs : List Bool) where
+module _ (before crossing : ℕ) (bs : List Bool) where
   abbrev against : ℕ → Bool
-  against j = choose (isOn mask j) (xor (getD bs j false) (isOn before j)) (getD bs j false)
+  against j = choose (isOn crossing j) (xor (getD bs j false) (isOn before j)) (getD bs j false)
 
-  crossed-bit : (j : ℕ) → j < 8 → bit (crossedOf before mask (word bs)) j ≡ bit (word (eight against)) j
+  crossed-bit : (j : ℕ) → j < 8 → bit (crossedOf before crossing (word bs)) j ≡ bit (word (eight against)) j
   crossed-bit j h =
-      crosses before mask (word bs) j
-      ∙ ap (λ (b : Bool). flagOf (choose (isOn mask j) (xor b (isOn before j)) b))
+      crosses before crossing (word bs) j
+      ∙ ap (λ (b : Bool). flagOf (choose (isOn crossing j) (xor b (isOn before j)) b))
       (ap (λ (n : ℕ). eqb n 1) (word-bit bs j) ∙ on-flag (getD bs j false))
       ∙ ap flagOf (sym (eight-at against j h))
       ∙ sym (word-bit (eight against) j)
 
-  crossed-word : mask < 256 → word bs < 256 → crossedOf before mask (word bs) ≡ word (eight against)
+  crossed-word : crossing < 256 → word bs < 256 → crossedOf before crossing (word bs) ≡ word (eight against)
   crossed-word h k =
-      same-byte (crossedOf before mask (word bs)) (word (eight against)) (crossed-lt before mask (word bs) h k)
+      same-byte (crossedOf before crossing (word bs)) (word (eight against)) (crossed-lt before crossing (word bs) h k)
       (byte-of _ _ _ _ _ _ _ _) crossed-bit
 
 module _ (rs : List ℕ) (a b c d : Bool) where

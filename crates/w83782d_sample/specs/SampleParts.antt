@@ -31,7 +31,7 @@ remoteStep s o r =
       latched = statusOf (s .mode) (r .status) (s .above) (s .below) .latched;
     }
 
--- what the readings stored say
+-- what the readings stored, the marks and the real-time bits before say
 pub record Evaluates (rs : List ℕ) (l : Latches) (j : Evaluation) : Type 0 where
   pub real1 : j .real1 ≡ realTimeByte rs firstByte
   pub real2 : j .real2 ≡ realTimeByte rs secondByte

@@ -452,18 +452,18 @@ fn fan_actions(fan: u8) -> Vec<Call> {
 }
 
 /// Every fan at a limit of 152 with divisor 2, its real-time bit set or not and so the
-/// bits beside it, in bank 4.
+/// bits beside it; in bank 0, where 5Dh is written, and in bank 4, where 59h is read.
 #[test]
 fn every_short_list_around_a_fans_crossing_agrees() {
     for fan in 1..=3 {
-        for before in [0x00, 0xFF] {
+        let actions = fan_actions(fan);
+        for (bank, before) in [(0, 0x00), (0, 0xFF), (4, 0x00), (4, 0xFF)] {
             let mut start = calm_limits(power_on());
             start[cell(0, 0x3B)..][..3].fill(152);
             start[cell(0, 0x40)] = 0x03;
-            start[cell(0, 0x4E)] = 4;
+            start[cell(0, 0x4E)] = bank;
             start[cell(4, 0x59)..][..2].fill(before);
-            let actions = fan_actions(fan);
-            let origin = format!("fan {fan}, real-time bits {before:02X}h");
+            let origin = format!("fan {fan}, bank {bank}, real-time bits {before:02X}h");
             assert_eq!(walk(&actions, &start, 4, &origin), lists(&actions, 4));
         }
     }

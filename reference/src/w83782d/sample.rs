@@ -1,4 +1,5 @@
-//! "What a sample does" of document 01, as request C-14 amends it.
+//! "What a sample does" of document 01. For the status of fans request C-14
+//! amends it.
 
 use super::map::cell;
 use super::monitor::{Monitor, CONFIGURATION, REAL_TIME, STATUS};
@@ -66,18 +67,6 @@ const SMI_MASK: [usize; 2] = [cell(0, 0x43), cell(0, 0x44)];
 const OVT_CONFIGURATION: [usize; 2] = [cell(1, 0x52), cell(2, 0x52)];
 const IRQ_OVT_PROPERTY: usize = cell(0, 0x4C);
 
-/// "A fan's status bit is latched at a sample when its condition differs from the
-/// real-time bit that the sample before left" (C-14).
-fn crossings(before: u16, now: u16) -> u16 {
-    let mut crossed = 0;
-    for bit in FAN_BIT {
-        if before >> bit & 1 != now >> bit & 1 {
-            crossed |= 1 << bit;
-        }
-    }
-    crossed
-}
-
 impl Monitor {
     /// Sample.
     pub fn sample(&mut self, sample: &Sample) -> u8 {
@@ -88,14 +77,15 @@ impl Monitor {
         if !self.monitoring() {
             return NOT_MONITORING;
         }
+        // The "real-time bit that the sample before left" (C-14), which this
+        // sample writes over.
+        let fans_before = self.real_time_fans();
         // "It stores seven codes, three temperatures and three fan counts, sets
-        // the real-time bits, then latches status": what the sample before left is
-        // kept for the last of these.
+        // the real-time bits, then latches status."
         self.store(sample);
-        let before = REAL_TIME.map(|register| self.registers[register]);
-        let (voltages, fans) = (self.voltages(), self.fans());
-        self.set_real_time(voltages | fans);
-        self.latch_status(voltages | crossings(u16::from_le_bytes(before), fans));
+        let (voltages, fans) = (self.voltages(), self.slow_fans());
+        self.set_real_time(voltages, fans);
+        self.latch_status(voltages, fans, fans_before);
         for sensor in 0..2 {
             self.step_ovt(sensor);
         }
@@ -155,9 +145,18 @@ impl Monitor {
         }
     }
 
+    /// The real-time bit of each fan.
+    fn real_time_fans(&self) -> [bool; 3] {
+        let bits = u16::from_le_bytes(REAL_TIME.map(|cell| self.shown(cell)));
+        FAN_BIT.map(|bit| (bits >> bit) & 1 != 0)
+    }
+
     /// "Sets the real-time bits."
-    fn set_real_time(&mut self, voltages_and_fans: u16) {
-        let mut bits = voltages_and_fans;
+    fn set_real_time(&mut self, voltages: u16, fans: [bool; 3]) {
+        let mut bits = voltages;
+        for (fan, bit) in FAN_BIT.iter().enumerate() {
+            bits |= u16::from(fans[fan]) << bit;
+        }
         for (sensor, bit) in SENSOR_BIT.iter().enumerate() {
             bits |= u16::from(self.above(sensor)) << bit;
         }
@@ -166,10 +165,17 @@ impl Monitor {
         }
     }
 
-    /// "Then latches status." Voltages "latch their bit at each sample where the
-    /// condition holds".
-    fn latch_status(&mut self, voltages_and_crossings: u16) {
-        let mut bits = voltages_and_crossings;
+    /// "Then latches status."
+    fn latch_status(&mut self, voltages: u16, fans: [bool; 3], fans_before: [bool; 3]) {
+        // "Voltages [...] latch their bit at each sample where the condition
+        // holds."
+        let mut bits = voltages;
+        // "A fan's status bit is latched at a sample when its condition differs
+        // from the real-time bit that the sample before left (0 after power-on
+        // or reset)" (C-14). What 41h and 42h hold plays no part (D-55).
+        for (fan, bit) in FAN_BIT.iter().enumerate() {
+            bits |= u16::from(fans[fan] != fans_before[fan]) << bit;
+        }
         for (sensor, bit) in SENSOR_BIT.iter().enumerate() {
             bits |= u16::from(self.step_status(sensor)) << bit;
         }
@@ -178,20 +184,11 @@ impl Monitor {
         }
     }
 
-    /// The conditions of the voltages, each at its bit.
+    /// The conditions of voltages, each at its bit.
     fn voltages(&self) -> u16 {
         let mut bits = 0;
         for (channel, bit) in VOLTAGE_BIT.iter().enumerate() {
             bits |= u16::from(self.voltage_outside(channel)) << bit;
-        }
-        bits
-    }
-
-    /// The conditions of the fans, each at its bit.
-    fn fans(&self) -> u16 {
-        let mut bits = 0;
-        for (fan, bit) in FAN_BIT.iter().enumerate() {
-            bits |= u16::from(self.count_above_limit(fan)) << bit;
         }
         bits
     }
@@ -203,6 +200,11 @@ impl Monitor {
         let high = self.shown(VOLTAGE_HIGH + 2 * channel);
         let low = self.shown(VOLTAGE_LOW + 2 * channel);
         code > high || code < low
+    }
+
+    /// The condition of each fan.
+    fn slow_fans(&self) -> [bool; 3] {
+        [0, 1, 2].map(|fan| self.count_above_limit(fan))
     }
 
     /// "Count above its limit": the stored count.

@@ -1,4 +1,4 @@
--- Calls that leave the real-time bits: each call by its kind, and a list by induction.
+-- Quiet calls leave the fans' real-time bits: each call by its kind, and a list by induction.
 -- Assumes nothing.
 use mathlib.Core.Path.{_≡_, refl, ap, ap₂, sym, _∙_}
 use mathlib.Core.Bool.{Bool, true, false, not, _&&_}

@@ -1,11 +1,12 @@
 //! Second program for the hardware monitors W83782D and W83L784R.
 //!
 //! It carries out document 01 sentence by sentence, in the order of that
-//! paper's headings, and is meant to be read with the paper beside it. Where
-//! document 01 is silent, the data sheet and the readings that the project has
-//! fixed ("open points") decide. The W83L784R follows request C-16 in the same
-//! way, in the order of the C-16 table, the project's reading of it. Plainness
-//! comes before cleverness: the planner searches, and arithmetic is done in wide
+//! paper's headings, and is meant to be read with the paper beside it. Where a
+//! later request amends a sentence, the code names the request. Where document
+//! 01 is silent, the data sheet and the readings that the project has fixed
+//! ("open points") decide. The W83L784R follows request C-16 in the same way, in
+//! the order of the C-16 table, the project's reading of it. Plainness comes
+//! before cleverness: the planner searches, and arithmetic is done in wide
 //! integers.
 //!
 //! Every state is allowed as a start, also one whose cells hold bits that no

@@ -186,12 +186,12 @@ uint8_t w83782d_sample(uint8_t *image, size_t n, const uint8_t *volts, size_t v,
  * count limit and its three divisor bits, and nothing else, whatever bank is
  * selected and whether or not monitoring is stopped. Stored counts and real-time
  * bits wait for the next sample, which may then latch the fan's status bit, either
- * way. From then on an accepted sample sets the fan's
- * real-time bit exactly when its undivided count is (limit + 1) * divisor or more,
- * until the first of these: a reset by 40h bit 7, an accepted write that gives a bit
- * of that fan's limit or divisor another value (either may come in a record too),
- * the next accepted plan on that fan, w83782d_power_on. Answers 0, 8 (n), 7 (fan) or
- * 6 (speed); a refusal leaves every byte of the image and the plan that was in force.
+ * way. From then on an accepted sample sets the fan's real-time bit exactly when its
+ * undivided count is (limit + 1) * divisor or more, until the first of these: a reset
+ * by 40h bit 7, an accepted write that gives a bit of that fan's limit or divisor
+ * another value (either may come in a record too), the next accepted plan on that
+ * fan, w83782d_power_on. Answers 0, 8 (n), 7 (fan) or 6 (speed); a refusal leaves
+ * every byte of the image and the plan that was in force.
  */
 W83782D_MUST_USE
 uint8_t w83782d_set_plan(uint8_t *image, size_t n, uint8_t fan, uint32_t rpm);

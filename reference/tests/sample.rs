@@ -2,7 +2,7 @@
 
 mod common;
 
-use common::{any_sample, any_state, at, peek, quiet, Rng, CALM};
+use common::{any_sample, any_state, at, peek, quiet, Rng, CALM, CROSSINGS};
 use reference::w83782d::{Monitor, Sample};
 use reference::Mark;
 
@@ -211,18 +211,7 @@ fn a_fan_latches_on_crossings_in_both_directions() {
     for fan in 1..=3 {
         let mut m = quiet();
         assert_eq!(m.write(0x3A + fan, 100), 0);
-        // Divisor 2: slow from 202 on.
-        for (u, slow, latches) in [
-            (0, false, false),
-            (201, false, false),
-            (202, true, true),
-            (203, true, false),
-            (u32::MAX, true, false),
-            (201, false, true),
-            (0, false, false),
-            (500, true, true),
-            (0, false, true),
-        ] {
+        for (u, slow, latches) in CROSSINGS {
             assert_eq!(m.sample(&with_u(fan, u)), 0);
             let expected = (fan_bit(fan, latches), fan_bit(fan, slow));
             assert_eq!(bits(&mut m), expected, "fan {fan} u {u}");

@@ -6,7 +6,7 @@ use common::w83l784r::{
     any_running_state, any_sample, any_state, at, at_degrees, fan_rings, held, hysteresis_at,
     over_at, quiet, sample_at, set_limits, stored, value_at, CALM,
 };
-use common::Rng;
+use common::{Rng, CROSSINGS};
 use reference::w83l784r::{Monitor, Sample};
 use reference::Mark;
 
@@ -232,18 +232,7 @@ fn a_fan_latches_on_crossings_in_both_directions() {
         let bit = fan;
         let mut m = quiet();
         assert_eq!(m.write(0x3A + fan, 100), 0);
-        // Divisor 2: slow from 202 on.
-        for (u, slow, latches) in [
-            (0, false, false),
-            (201, false, false),
-            (202, true, true),
-            (203, true, false),
-            (u32::MAX, true, false),
-            (201, false, true),
-            (0, false, false),
-            (500, true, true),
-            (0, false, true),
-        ] {
+        for (u, slow, latches) in CROSSINGS {
             assert_eq!(m.sample(&with_u(fan, u)), 0);
             let real_time = if slow { bit } else { 0x00 };
             assert_eq!(m.look(0x46), (0, real_time), "fan {fan} u {u}");

@@ -7,6 +7,21 @@ pub mod w83l784r;
 use reference::w83782d::{Monitor, Sample};
 use reference::Mark;
 
+/// C-14, for a fan of either chip at a limit of 100 with divisor 2, so slow from 202
+/// on: u of one sample after another, whether the fan is slow at it, and whether its
+/// status bit is latched.
+pub const CROSSINGS: [(u32, bool, bool); 9] = [
+    (0, false, false),
+    (201, false, false),
+    (202, true, true),
+    (203, true, false),
+    (u32::MAX, true, false),
+    (201, false, true),
+    (0, false, false),
+    (500, true, true),
+    (0, false, true),
+];
+
 /// A small generator with a fixed seed (xorshift, 64 bits).
 pub struct Rng(u64);
 

@@ -18,6 +18,8 @@
 //   3 slow           back from standby: 254 rings and 253 doesn't.
 //   refused          fan 4, and fan 0 at speed 0: 7; fan 3 at 0 and at 1,350,001: 6. Nothing changes.
 //   reset            40h 80h: power-on values again, and fan 3 rings by d 2 and limit 0: u 1 is 0 by 2, u 2 is 1.
+#![tactic(auto)]
+
 use fan::Undivided;
 use libc::STDOUT_FILENO;
 use text::{put_byte, put_bytes, put_decimal};

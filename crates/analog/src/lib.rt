@@ -1,4 +1,6 @@
 // Readings of the analog side but voltages: temperatures and which half degrees are out of range, PWM duty.
+#![tactic(auto)]
+
 ghost use Rattle.std.specs.Prelude.{◌≡◌, ◌<◌};
 ghost use Rattle.bits.specs.Bits.{choose};
 ghost use Rattle.numbers.specs.TwosComplement.{half8, half9, signed_of, code_of, level_of, TwosComplement};

@@ -1,5 +1,7 @@
 // Bits of bytes: one bit, a merge by mask, a store of some bits of a cell, flags packed into a byte.
 // Nothing here is of one chip. A cell beyond the slice reads 0, and a store to it does nothing.
+#![tactic(auto)]
+
 ghost use Rattle.std.specs.Prelude.{◌≡◌, [], ◌∷◌, get_or, set};
 ghost use Rattle.bits.specs.Bits.{bit, number_of, is_on, in_set, merge_of, change, changes, flag_of, word};
 

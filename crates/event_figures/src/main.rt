@@ -1,5 +1,7 @@
 // The figure for the record of writing 50h to 47h, 01 47 50 and 29 zeros, run: the record is written, its bytes are
 // printed, and what they decode to.
+#![tactic(auto)]
+
 use fan::Undivided;
 use libc::STDOUT_FILENO;
 use w83782d_layout::samples::Sample;

@@ -1,4 +1,6 @@
 // Fans: counts as counted and after division, the eight divisors and where their bits lie, and the speed reading.
+#![tactic(auto)]
+
 ghost use Rattle.std.specs.Prelude.{◌≡◌, ◌<◌, ◌%◌, ◌^◌};
 ghost use Rattle.fan.specs.Count.{exponent_of, value_of, from_bits, stored_of, over_limit};
 ghost use Rattle.bits.specs.Fields.{places_of};

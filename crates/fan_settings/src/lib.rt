@@ -1,5 +1,7 @@
 // Where a fan's limit and divisor are in the registers, and setting them by a plan, in place on the registers' slice.
 // Nothing here is of one chip.
+#![tactic(auto)]
+
 ghost use Rattle.std.specs.Prelude.{◌≡◌};
 ghost use Rattle.bits.specs.Fields.{places_of};
 ghost use Rattle.fan.specs.Plan.{plan_answer};

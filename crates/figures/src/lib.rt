@@ -2,6 +2,8 @@
 // bit. Definitions and laws alone; crate `figures_kept` keeps them. Nothing here is of one chip.
 
 // The figure of one reading. How many samples there were is kept once, beside the figures of all readings.
+#![tactic(auto)]
+
 #[derive(Drop)]
 pub struct Figure {
     pub least: i64,

@@ -1,5 +1,7 @@
 // Figures and counters kept in slices, a sample or a byte more at a time (crate `figures` says what they are). Nothing
 // here is of one chip.
+#![tactic(auto)]
+
 ghost use Rattle.std.specs.Prelude.{◌≡◌, ◌+◌, ◌*◌, ◌<◌, ◌≤◌, length, slice_set};
 ghost use Rattle.bits.specs.Bits.{choose};
 ghost use Rattle.figures.specs.Figure.{RunningFigures};

@@ -1,5 +1,7 @@
 // Flags kept as bytes, eight at a time as one number, the first lowest: a byte of 0 is a flag that is off,
 // any other one that is on; written as 0 or 1. As one number they cost a load, a few steps and a store.
+#![tactic(auto)]
+
 ghost use Rattle.std.specs.Prelude.{◌≡◌, [], ◌∷◌, ◌+◌, ◌*◌, ◌≤◌, length};
 ghost use Rattle.std.proofs.lemmas.List.Edits.{sets};
 ghost use Rattle.bits.specs.Bits.{number_of, is_on, flag_of};

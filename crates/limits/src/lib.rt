@@ -1,1 +1,3 @@
 // Readings against their limits, by the cells that hold them: definitions and laws alone, for any chip.
+
+#![tactic(auto)]

@@ -3,6 +3,8 @@
 //
 // Each promises besides how far it goes at most (`short`), for a caller who needs room for all of it: a number of 64
 // bits has at most 20 characters, with its sign.
+#![tactic(auto)]
+
 ghost use Rattle.std.specs.Prelude.{◌≡◌, ◌+◌, ◌*◌, ◌≤◌, pos, length, get_or};
 ghost use Rattle.figures.specs.Figure.{figure, figure_at};
 ghost use Rattle.text.specs.Text.{Put};

@@ -1,4 +1,6 @@
 // The marks and outputs of temperature sensors.
+#![tactic(auto)]
+
 ghost use Rattle.std.specs.Prelude.{◌≡◌};
 ghost use Rattle.sensor.specs.Sensor.{armed, released_of, is_hot, mark_if, status_of, output_of};
 

@@ -1,6 +1,8 @@
 // Two status bytes and their masks: whether a bit is set that its mask leaves, how many bits
 // are set, bits of both, such as those that an event latches, and conditions that latch on crossings.
 // Nothing here is of one chip.
+#![tactic(auto)]
+
 ghost use Rattle.std.specs.Prelude.{◌≡◌, ◌≤◌};
 ghost use Rattle.status.specs.Status.{any_unmasked, alarm_count, crossed_of};
 ghost use Rattle.status.specs.Claims.{CountsSetBits, Crosses};

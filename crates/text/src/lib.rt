@@ -2,6 +2,8 @@
 // its characters, also where that is past the buffer's end: so puts follow one another with no
 // test between them, and the last place tells whether all of it fitted. Crate `text_hex` has
 // digits of base 16, and `text_push` has pushes, which write all of their characters or none.
+#![tactic(auto)]
+
 ghost use Rattle.std.specs.Prelude.{◌≡◌, [], ◌∷◌};
 ghost use Rattle.text.specs.Text.{Put};
 ghost use Rattle.text.specs.Numbers.{digit, decimal, spaced, places, pointed, magnitude_of, signed, signed_places};

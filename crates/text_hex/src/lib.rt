@@ -1,4 +1,6 @@
 // Bytes as two digits of base 16, put as crate `text` puts numbers.
+#![tactic(auto)]
+
 ghost use Rattle.std.specs.Prelude.{◌≡◌, ◌<◌};
 ghost use Rattle.text.specs.Text.{Put};
 ghost use Rattle.text_hex.specs.Hex.{hex_digit, hex_with, hex, small_hex};

@@ -1,5 +1,7 @@
 // Text in a lent buffer, all or nothing: a `push` that does not fit is refused and leaves every
 // byte. Each first puts its characters into a buffer of one byte, which tells where they end.
+#![tactic(auto)]
+
 ghost use Rattle.std.specs.Prelude.{◌≡◌};
 ghost use Rattle.text_push.specs.Pushed.{page, pushed, Pushes};
 ghost use Rattle.text.specs.Numbers.{decimal, Decimals, places, Places, signed, Signs, signed_places};

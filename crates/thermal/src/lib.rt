@@ -1,5 +1,7 @@
 // Temperatures with an offset, their quotients by a step, and two more modes over the steps of `sensor`: one-time
 // status and ACPI output. Nothing here is of one chip.
+#![tactic(auto)]
+
 ghost use Rattle.std.specs.Prelude.{◌≡◌};
 ghost use Rattle.thermal.specs.Offset.{held_sum, HeldSum};
 ghost use Rattle.thermal.specs.Quotient.{quotient_by, has_moved, QuotientDown, MovedExactly};

@@ -1,5 +1,7 @@
 // The hardware monitor W83782D by value: each event takes the monitor and hands it back with the answer.
 // The work is done in place by the crates below; each method takes registers and latches out and wraps that call.
+#![tactic(auto)]
+
 ghost use Rattle.std.specs.Prelude.{◌≡◌};
 ghost use Rattle.w83782d_claims.specs.BusClaims.{WriteClaims, ReadClaims, OpenedClaims};
 ghost use Rattle.w83782d_claims.specs.SampleClaims.{SampleClaims};

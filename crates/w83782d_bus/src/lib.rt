@@ -1,5 +1,7 @@
 // The register side of the W83782D, in place on the registers' slice with the small latches by value:
 // power-on, bus write, look, bus read and reset.
+#![tactic(auto)]
+
 ghost use Rattle.std.specs.Prelude.{◌≡◌};
 ghost use Rattle.w83782d_latches.specs.Effects.{power_on_latches};
 ghost use Rattle.w83782d_bus.specs.Bus.{state, power_on, written_in, write_of, written, read_in};

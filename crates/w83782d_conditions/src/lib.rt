@@ -1,5 +1,7 @@
 // What a sample finds in the registers with the readings stored: rails, fans and
 // temperatures against their limits, and modes.
+#![tactic(auto)]
+
 ghost use Rattle.std.specs.Prelude.{◌≡◌, false, [], ◌∷◌, ◌<◌, ◌≤◌, ◌+◌, length};
 ghost use Rattle.bits.specs.Bits.{word};
 ghost use Rattle.w83782d_map.specs.Map.{cells};

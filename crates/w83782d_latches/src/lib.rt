@@ -1,5 +1,7 @@
 // What the registers do not hold: the chassis latch and the sensors' marks and outputs, by
 // value, and what power-on, a reset, a write, a read and a chassis event leave of them.
+#![tactic(auto)]
+
 ghost use Rattle.std.specs.Prelude.{◌≡◌, ◌≤◌};
 ghost use Rattle.bits.specs.Bits.{choose};
 ghost use Rattle.w83782d_registers.specs.Registers.{is_interrupt};

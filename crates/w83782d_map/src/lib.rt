@@ -1,5 +1,7 @@
 // The register map of the W83782D: named cells, sets of cells and values by cell, and what the rows say of a cell:
 // whether it is a register, the answer to a write, the bits it stores, its power-on value, whether a reset keeps it.
+#![tactic(auto)]
+
 ghost use Rattle.std.specs.Prelude.{◌≡◌};
 ghost use Rattle.w83782d_map.specs.Map.{present_at, power_on_at, kept_at};
 ghost use Rattle.w83782d_map.specs.Access.{write_answer, stored_bits};

@@ -1,6 +1,8 @@
 // The data sheet's names of the registers, put into a lent buffer. A table is one literal with a row for each index, a
 // name and spaces up to the table's width. A check takes such a literal at once; a match
 // with a put in each arm takes it nearly half a second for each of the 71 names.
+#![tactic(auto)]
+
 ghost use Rattle.std.specs.Prelude.{◌+◌, ◌*◌, ◌≤◌, ◌<◌, length};
 ghost use Rattle.text.specs.Text.{ascii, Put};
 ghost use Rattle.w83782d_names.specs.Names.{find, reading_names, control_names, bank0_names};

@@ -1,4 +1,6 @@
 // Setting a plan, in place on the registers' slice with the latches by value.
+#![tactic(auto)]
+
 ghost use Rattle.std.specs.Prelude.{◌≡◌};
 ghost use Rattle.w83782d_bus.specs.Bus.{state, sized, outcome_in};
 ghost use Rattle.w83782d_plan.specs.Plan.{set_plan_of};

@@ -1,4 +1,6 @@
 // The raw values of a sample, as a report sums them: codes, whole and half degrees, undivided counts.
+#![tactic(auto)]
+
 ghost use Rattle.std.specs.Prelude.{◌≡◌, pos};
 ghost use Rattle.w83782d_day.specs.Day.{raw_values};
 

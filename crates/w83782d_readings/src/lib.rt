@@ -1,5 +1,7 @@
 // The readings of the stored values: millivolts, speeds, temperatures, PWM duties.
 // The registers' slice is left as it is; a slice that is not of 112 cells is refused as 8.
+#![tactic(auto)]
+
 ghost use Rattle.std.specs.Prelude.{◌≡◌};
 ghost use Rattle.w83782d_readings.specs.Readings.{voltage_of, speed_of, temperature_of, duty_of};
 ghost use Rattle.w83782d_readings.specs.Claims.{ReadingClaims};

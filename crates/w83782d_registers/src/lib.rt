@@ -1,5 +1,7 @@
 // What the registers do as a whole: the cell that an access reaches, power-on and reset
 // of every cell, commands, and the byte that a read shows.
+#![tactic(auto)]
+
 ghost use Rattle.std.specs.Prelude.{◌≡◌, ◌&&◌, ◌≤◌, eqb};
 ghost use Rattle.bits.specs.Bits.{is_on};
 ghost use Rattle.w83782d_map.specs.Cells.{bank_cell};

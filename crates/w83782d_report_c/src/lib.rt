@@ -1,5 +1,7 @@
 // The report of a whole log in one call from C. host/bench makes it, to measure the report without the
 // reading and printing of the program; no header declares it.
+#![tactic(auto)]
+
 ghost use Rattle.std.specs.Prelude.{◌≤◌};
 ghost use Rattle.text.specs.Text.{Put};
 ghost use Rattle.w83782d_bus.specs.Bus.{power_on};

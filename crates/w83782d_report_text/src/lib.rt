@@ -1,5 +1,7 @@
 // The 28 lines of the report of a day, put into a lent buffer: the figures of each
 // reading, how often each bit of 41h and 42h was latched, and the end.
+#![tactic(auto)]
+
 ghost use Rattle.std.specs.Prelude.{◌≡◌, ◌+◌, ◌≤◌, length};
 ghost use Rattle.text.specs.Text.{Put};
 ghost use Rattle.text_hex.specs.Hex.{hex};

@@ -1,5 +1,7 @@
 // What a sample does, in place on the registers' slice with the latches by value:
 // readings stored, real-time bits set, status latched, marks and OVT stepped.
+#![tactic(auto)]
+
 ghost use Rattle.std.specs.Prelude.{◌≡◌, false, [], ◌∷◌, length};
 ghost use Rattle.bits.specs.Bits.{word};
 ghost use Rattle.w83782d_map.specs.Map.{cells};

@@ -1,5 +1,7 @@
 // What a sample stores, in place on the registers' slice, and whether it is taken at all:
 // seven codes, three temperatures and three counts by the divisors now set; answers 3 and 4.
+#![tactic(auto)]
+
 ghost use Rattle.std.specs.Prelude.{◌≡◌, ◌≤◌, length};
 ghost use Rattle.bits.specs.Fields.{places_of};
 ghost use Rattle.fan.specs.Count.{value_of, stored_of};

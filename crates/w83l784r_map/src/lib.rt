@@ -1,6 +1,8 @@
 // The register map of the W83L784R: named cells, sets of cells and values by cell, and what the rows say of a cell:
 // whether it is a register, the answer to a bus write, the bits it stores and shows, its power-on value, whether a
 // reset keeps it, whether it is an identity. A number past the last cell is no register.
+#![tactic(auto)]
+
 ghost use Rattle.std.specs.Prelude.{◌≡◌};
 ghost use Rattle.w83l784r_map.specs.Map.{present_at, power_on_at, kept_at, identity_at};
 ghost use Rattle.w83l784r_map.specs.Access.{write_answer, stored_bits, shown_bits};

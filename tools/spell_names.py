@@ -57,7 +57,10 @@ def table():
 
 
 def turned(text, rows):
-    """The text outside strings, by words."""
+    """The text outside strings, by words; a module's path stays."""
+    path = re.match(r" *use Rattle[^{\s]*", text)
+    if path:
+        return path[0] + turned(" " + text[path.end() :], rows)[1:]
     parts, at = [], 0
     for m in STRING.finditer(text):
         parts += [WORD.sub(lambda w: one(w[0], rows), text[at : m.start()]), m[0]]
@@ -108,8 +111,8 @@ def main(args):
     with open(TABLE, "w", encoding="utf-8") as f:
         f.writelines(f"{o}\t{n}\n" for o, n in sorted(rows.items()))
     n = sum(write(path, lambda line: line_turned(line, rows, "--")) for path in antt_files())
-    # In the code a dash is a minus or English; clauses name no lemma.
-    plain = {o: new for o, new in rows.items() if "-" not in o}
+    # In the code a dash is a minus or English, and what is in snake case is a function's name; clauses name no lemma.
+    plain = {o: new for o, new in rows.items() if re.search("[A-Z]", o)}
     for path in sorted(glob.glob("crates/*/src/**/*.rt", recursive=True)):
         n += write(path, lambda line: line_turned(line, plain, "//"))
     print(f"{len(rows)} names, {n} files changed")

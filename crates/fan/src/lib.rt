@@ -59,7 +59,7 @@ pub enum Speed {
 
 impl Divisor {
     // The divisor of the low three bits.
-    pub fn from_bits_law(bits: u8) -> Self
+    pub fn from_bits(bits: u8) -> Self
         ensures { (result ≡ from_bits bits) × (exponent_of result ≡ bits % 8) }
     {
         match bits % 8 {

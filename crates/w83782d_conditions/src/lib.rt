@@ -47,7 +47,7 @@ fn half_level_at(s: &[u8], c: usize) -> u16
 
 // ---- The bits of 41h and 59h, and of 42h and 5Ah: rails and fans, as the real-time bits show them
 
-fn first_byte_law(s: &[u8]) -> u8
+fn first_byte(s: &[u8]) -> u8
     requires { length s.now ≡ cells }
     ensures { result
         ≡ word (is_outside s.now 0 ∷ is_outside s.now 1 ∷ is_outside s.now 2
@@ -178,7 +178,7 @@ pub fn compare(s: &[u8]) -> Compared
             output3: Mode::Interrupt,
         };
     }
-    let first = first_byte_law(s);
+    let first = first_byte(s);
     let second = second_byte(s);
     let one = compare_sensor1(s);
     let two = compare_remote(s, 2);

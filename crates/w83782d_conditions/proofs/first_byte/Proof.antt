@@ -1,7 +1,7 @@
 use borrow.Author.Rules.{rules}
 use Rattle.w83782d_conditions.proofs.Rules.{first_packed}
-use Rattle.w83782d_conditions.proofs.first_byte_law.Statement.{statement}
-use Rattle.w83782d_conditions.proofs.first_byte_law.Tie as tie
+use Rattle.w83782d_conditions.proofs.first_byte.Statement.{statement}
+use Rattle.w83782d_conditions.proofs.first_byte.Tie as tie
 
 outside-requires : tie.Need-outside-requires
 outside-requires c κs = search rules

@@ -5,8 +5,8 @@ use Prim.Native.Nat.{ℕ, ◌+◌, ◌%◌, ◌≤◌}
 use mathlib.Core.Path.{◌≡◌}
 use Rattle.fan.specs.Count.{from_bits}
 use Rattle.fan.proofs.Divisors.{bits_of}
-use Rattle.fan.proofs.Divisor.from_bits_law.Statement.{statement}
-use Rattle.fan.proofs.Divisor.from_bits_law.Tie as tie
+use Rattle.fan.proofs.Divisor.from_bits.Statement.{statement}
+use Rattle.fan.proofs.Divisor.from_bits.Tie as tie
 
 returns : tie.Need-returns
 unfolding from_bits

@@ -25,7 +25,7 @@ const FULL_DUTY: u8 = 255;
 const ALL_PARTS: u16 = 256;
 
 // The two bytes of a temperature in half degrees.
-#[derive(Drop)]
+#[derive(Clone, Copy)]
 pub enum HalfCode {
     Code { high: u8, low: u8 },
     // Answer 3: outside -256 to 255 half degrees.

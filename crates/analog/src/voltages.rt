@@ -22,7 +22,7 @@ const PLUS_12: u32 = 304;
 const PLUS_12_OVER: u32 = 5;
 
 // What reading a voltage answers.
-#[derive(Drop)]
+#[derive(Clone, Copy)]
 pub enum Reading {
     Millivolts(i32),
     // Answer 7: no such channel, or a resistor out of range.

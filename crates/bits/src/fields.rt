@@ -7,14 +7,14 @@ ghost use Rattle.bits.specs.Fields.{gather_of, replace_of, places_of};
 use crate::{Bit, bit_of, store};
 
 // Where one bit lies: its cell, and its number there.
-#[derive(Drop)]
+#[derive(Clone, Copy)]
 pub struct Place {
     pub cell: usize,
     pub bit: Bit,
 }
 
 // A field of three bits, lowest first.
-#[derive(Drop)]
+#[derive(Clone, Copy)]
 pub struct Field {
     pub low: Place,
     pub middle: Place,

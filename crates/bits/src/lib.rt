@@ -8,7 +8,7 @@ ghost use Rattle.bits.specs.Bits.{bit, number_of, is_on, in_set, merge_of, chang
 pub mod fields;
 
 // The number of a bit of a byte: no other can be written.
-#[derive(Drop)]
+#[derive(Clone, Copy)]
 pub enum Bit {
     B0,
     B1,

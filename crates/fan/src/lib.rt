@@ -22,15 +22,15 @@ pub const PER_TENTH: u32 = 13500000;
 const FULL: u8 = 255;
 
 // A count as counted. It is never compared with a limit.
-#[derive(Drop)]
+#[derive(Clone, Copy)]
 pub struct Undivided(pub u32);
 
 // A count after division, as a fan's count register holds it.
-#[derive(Drop)]
+#[derive(Clone, Copy)]
 pub struct Divided(pub u8);
 
 // One of the eight divisors.
-#[derive(Drop)]
+#[derive(Clone, Copy)]
 pub enum Divisor {
     By1,
     By2,
@@ -43,7 +43,7 @@ pub enum Divisor {
 }
 
 // What reading a fan's speed answers.
-#[derive(Drop)]
+#[derive(Clone, Copy)]
 pub enum Speed {
     // Tenths of a turn a minute.
     Tenths(u32),

@@ -8,7 +8,7 @@ ghost use Rattle.fan.specs.Search.{choice_at, product_of, better, best_to, plan_
 use crate::{Divisor, PER_MINUTE, Undivided, divide};
 
 // What planning answers.
-#[derive(Drop)]
+#[derive(Clone, Copy)]
 pub enum Planned {
     // A divisor and a limit of 0 to 254.
     Plan { divisor: Divisor, limit: u8 },
@@ -17,7 +17,7 @@ pub enum Planned {
 }
 
 // A divisor with the number of its counts, a limit plus one, that planning weighs.
-#[derive(Drop)]
+#[derive(Clone, Copy)]
 struct Choice {
     divisor: Divisor,
     counts: u8,

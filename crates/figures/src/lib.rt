@@ -4,7 +4,7 @@
 // The figure of one reading. How many samples there were is kept once, beside the figures of all readings.
 #![tactic(auto)]
 
-#[derive(Drop)]
+#[derive(Clone, Copy)]
 pub struct Figure {
     pub least: i64,
     pub greatest: i64,

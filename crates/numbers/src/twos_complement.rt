@@ -4,7 +4,7 @@ ghost use Rattle.std.specs.Prelude.{◌≡◌, ◌*◌, ◌<◌, ◌≤◌};
 ghost use Rattle.numbers.specs.TwosComplement.{half_of, signed_of, code_of, level_of, TwosComplement};
 
 // How many bits a code has.
-#[derive(Drop)]
+#[derive(Clone, Copy)]
 pub enum Width {
     Eight,
     Nine,

@@ -5,7 +5,7 @@ ghost use Rattle.std.specs.Prelude.{◌≡◌};
 ghost use Rattle.sensor.specs.Sensor.{armed, released_of, is_hot, mark_if, status_of, output_of};
 
 // What a sensor waits for: armed, to rise above its over limit; hot, to fall below its hysteresis.
-#[derive(Drop)]
+#[derive(Clone, Copy)]
 pub enum Mark {
     Armed,
     Hot,
@@ -13,28 +13,28 @@ pub enum Mark {
 
 // How a sensor's status or OVT output goes by its mark. Interrupt: at each crossing that the mark waits for, one step a
 // sample; for the status this is the two-times mode.
-#[derive(Drop)]
+#[derive(Clone, Copy)]
 pub enum Mode {
     Comparator,
     Interrupt,
 }
 
 // What a sample does to a sensor's status: the mark after it, and whether the status bit is latched.
-#[derive(Drop)]
+#[derive(Clone, Copy)]
 pub struct Status {
     pub mark: Mark,
     pub latched: bool,
 }
 
 // The OVT output of one sensor, with a mark of its own.
-#[derive(Drop)]
+#[derive(Clone, Copy)]
 pub struct Output {
     pub mark: Mark,
     pub asserted: bool,
 }
 
 // Sensor 2 or 3: the mark of its status, and its OVT output.
-#[derive(Drop)]
+#[derive(Clone, Copy)]
 pub struct Remote {
     pub status: Mark,
     pub output: Output,

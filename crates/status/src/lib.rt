@@ -8,7 +8,7 @@ ghost use Rattle.status.specs.Status.{any_unmasked, alarm_count, crossed_of};
 ghost use Rattle.status.specs.Claims.{CountsSetBits, Crosses};
 
 // Bits of two status bytes.
-#[derive(Drop)]
+#[derive(Clone, Copy)]
 pub struct StatusBits {
     pub first: u8,
     pub second: u8,

@@ -11,7 +11,7 @@ use text::{put_bytes, put_decimal, put_places, put_signed, put_signed_places};
 use text_hex::{put_hex, put_small_hex};
 
 // The place after what was pushed; or, where it did not fit, the place where it was to be.
-#[derive(Drop)]
+#[derive(Clone, Copy)]
 pub struct Pos {
     pub at: usize,
     pub ok: bool,

@@ -15,7 +15,7 @@ const LOWEST: i16 = -128;
 const HIGHEST: i16 = 127;
 
 // How a sensor's status goes by its mark. One-time: the steps of the two-times mode, of which only the rise latches.
-#[derive(Drop)]
+#[derive(Clone, Copy)]
 pub enum StatusMode {
     Plain(Mode),
     OneTime,
@@ -23,7 +23,7 @@ pub enum StatusMode {
 
 // How a sensor's OVT output goes. ACPI: asserted by a sample whose quotient moved, released by every other; the mark is
 // that of comparator mode.
-#[derive(Drop)]
+#[derive(Clone, Copy)]
 pub enum OutputMode {
     Plain(Mode),
     Acpi,

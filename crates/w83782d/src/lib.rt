@@ -33,21 +33,21 @@ use w83782d_replay::take_in;
 use w83782d_sample::sample_in;
 
 // The registers, a cell for each, and what they do not hold.
-#[derive(Drop)]
+#[derive(Clone, Copy)]
 pub struct Monitor {
     pub registers: [u8; 112],
     pub latches: Latches,
 }
 
 // The monitor after an event, and the answer.
-#[derive(Drop)]
+#[derive(Clone, Copy)]
 pub struct Answered {
     pub monitor: Monitor,
     pub answer: u8,
 }
 
 // The monitor after a read or a look, the answer, and the byte shown.
-#[derive(Drop)]
+#[derive(Clone, Copy)]
 pub struct Shown {
     pub monitor: Monitor,
     pub answer: u8,

@@ -17,14 +17,14 @@ use w83782d_map::{
 use w83782d_registers::{is_command, reach, restore, shown};
 
 // What a write answers, with the latches after it.
-#[derive(Drop)]
+#[derive(Clone, Copy)]
 pub struct Outcome {
     pub latches: Latches,
     pub answer: u8,
 }
 
 // What a read answers, with the byte shown and the latches after it.
-#[derive(Drop)]
+#[derive(Clone, Copy)]
 pub struct ReadOutcome {
     pub latches: Latches,
     pub answer: u8,
@@ -32,7 +32,7 @@ pub struct ReadOutcome {
 }
 
 // What a look answers, with the byte shown.
-#[derive(Drop)]
+#[derive(Clone, Copy)]
 pub struct Looked {
     pub answer: u8,
     pub byte: u8,

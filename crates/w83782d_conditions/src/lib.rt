@@ -105,7 +105,7 @@ fn output_mode(s: &[u8], sensor: usize) -> Mode
 // ---- Sensors
 
 // A sensor's status mode, and its temperature against its limits.
-#[derive(Drop)]
+#[derive(Clone, Copy)]
 pub struct Comparison {
     pub mode: Mode,
     pub above: bool,
@@ -147,7 +147,7 @@ fn compare_remote(s: &[u8], sensor: usize) -> Comparison
 // ---- What a sample finds
 
 // The bits of rails and fans in both bytes, the sensors' bits off; the three sensors; the OVT modes of sensors 2 and 3.
-#[derive(Drop)]
+#[derive(Clone, Copy)]
 pub struct Compared {
     pub first: u8,
     pub second: u8,

@@ -14,7 +14,7 @@ use w83782d_map::{CHASSIS_CLEAR, CONFIGURATION, SENSOR_2, SENSOR_3};
 use w83782d_registers::{is_command, is_interrupt};
 
 // What the registers do not hold: the chassis latch, the status mark of sensor 1, and sensors 2 and 3.
-#[derive(Drop)]
+#[derive(Clone, Copy)]
 pub struct Latches {
     pub chassis: bool,
     pub sensor1: Mark,
@@ -22,7 +22,7 @@ pub struct Latches {
 }
 
 // What reading an OVT output answers.
-#[derive(Drop)]
+#[derive(Clone, Copy)]
 pub enum Ovt {
     Asserted,
     Released,

@@ -19,7 +19,7 @@ use w83782d_map::{
 use w83782d_store::divisor_field;
 
 // What reading a temperature answers.
-#[derive(Drop)]
+#[derive(Clone, Copy)]
 pub enum Temperature {
     // Half degrees; sensor 1's whole degrees doubled.
     HalfDegrees(i16),
@@ -30,7 +30,7 @@ pub enum Temperature {
 }
 
 // What reading a PWM duty answers.
-#[derive(Drop)]
+#[derive(Clone, Copy)]
 pub enum Duty {
     // Parts of 256.
     Parts(u16),

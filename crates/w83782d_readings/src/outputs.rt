@@ -11,7 +11,7 @@ use w83782d_map::{
 use w83782d_registers::with_chassis;
 
 // What the outputs of a slice of registers answer.
-#[derive(Drop)]
+#[derive(Clone, Copy)]
 pub enum Outputs {
     // Whether SMI is asserted, and the number of standing alarms.
     Shown { smi: bool, alarms: u8 },

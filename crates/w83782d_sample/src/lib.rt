@@ -26,7 +26,7 @@ use w83782d_store::{answer_to, store};
 // ---- Steps
 
 // Sensor 2 or 3 after a sample, and whether its status is latched.
-#[derive(Drop)]
+#[derive(Clone, Copy)]
 struct Step {
     remote: Remote,
     latched: bool,
@@ -64,7 +64,7 @@ const FANS_1: u8 = 0b1100_0000;
 
 const FANS_2: u8 = 0b0000_1000;
 
-#[derive(Drop)]
+#[derive(Clone, Copy)]
 struct Evaluation {
     real1: u8,
     real2: u8,
@@ -117,7 +117,7 @@ fn evaluate(s: &[u8], l: Latches) -> Evaluation
 }
 
 // The latches after a sample, and the bits that it latched.
-#[derive(Drop)]
+#[derive(Clone, Copy)]
 struct Latching {
     latches: Latches,
     latched: StatusBits,
@@ -144,7 +144,7 @@ fn set_status(s: &mut [u8], l: Latches) -> Latching
 // ---- The sample
 
 // What a sample answers, and the bits of 41h and 42h that it latched: none where it is refused.
-#[derive(Drop)]
+#[derive(Clone, Copy)]
 pub struct Sampled {
     pub latches: Latches,
     pub answer: u8,

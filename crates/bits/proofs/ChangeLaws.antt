@@ -11,7 +11,7 @@ use lib.ListN.{get_or, set, length, length-set, get_or-eq_default}
 use lib.Seq.{get_or-set_same, get_or-set_other, set_out}
 use borrow.Author.Tests.{eq-eqb}
 use Rattle.bits.specs.Bits.{bit, is_on, merge_of, Change, change, changes, touches}
-use Rattle.bits.specs.Claims.{Masks, ChangesKeep}
+use Rattle.bits.specs.Claims.{ChangesKeep}
 use Rattle.bits.proofs.BitLaws.{merge_kept, merge_given, bit_off}
 
 -- ---- tests on two parts

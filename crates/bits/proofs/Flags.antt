@@ -1,15 +1,15 @@
 -- Eight flags as a byte, by all their 256 values; and bit j of flags packed is flag j, over any number of flags.
 -- Assumes nothing.
-use mathlib.Core.Path.{◌≡◌, ◌∙◌, refl}
+use mathlib.Core.Path.{◌≡◌, ◌∙◌}
 use mathlib.Core.Bool.{Bool, true, false}
 use mathlib.Core.List.{List, [], ◌∷◌}
-use Prim.Native.Nat.{ℕ, zero, suc, ◌+◌, ◌*◌, ◌/◌, ◌%◌, ◌^◌, ◌<◌}
+use Prim.Native.Nat.{ℕ, zero, suc, ◌+◌, ◌*◌, ◌/◌, ◌%◌, ◌<◌}
 use native.Mathlib.Nat.{pow-succ', div-div-eq-div-mul, div-one}
 use native.Mathlib.Omega.{arith}
 use lib.ListN.{get_or}
 use lib.Dec.{T, eqb, eqb→eq, lit<}
 use lib.Bits.{bit_or}
-use Rattle.bits.specs.Bits.{bit, flag_of, word, choose}
+use Rattle.bits.specs.Bits.{bit, flag_of, word}
 use Rattle.bits.proofs.BitLaws.{bit_none}
 use Rattle.bits.proofs.Every.{both, both_left, both_right}
 

@@ -3,12 +3,8 @@
 use mathlib.Core.Path.{refl}
 use Rattle.status.specs.Status.{crossed_of}
 use Rattle.status.proofs.Crossings.{crosses}
-use Rattle.status.proofs.crossed.Statement.{statement}
-use Rattle.status.proofs.crossed.Tie as tie
+use Rattle.status.proofs.crossed.Goals as goal
 
-returns : tie.Need-returns
+pub returns : goal.returns
 unfolding crossed_of
 returns c = (refl, crosses)
-
-pub crossed-spec : {M : Type 1} → statement M
-crossed-spec = tie.close (tie.spec returns)

@@ -1,12 +1,12 @@
 -- Bytes joined into one number: masks and sums go byte by byte, so that a step on the number is
 -- that step on each byte, and the bytes come back. Over any number of bytes. Assumes nothing.
 use mathlib.Core.Path.{◌≡◌, refl, ap, ap₂, sym, ◌∙◌}
-use mathlib.Core.Bool.{Bool, true, false, not}
+use mathlib.Core.Bool.{Bool, true, false}
 use mathlib.Core.List.{List, [], ◌∷◌}
-use Prim.Native.Nat.{ℕ, zero, suc, ◌+◌, ◌*◌, ◌/◌, ◌%◌, ◌^◌, ◌<◌, ◌≤◌}
+use Prim.Native.Nat.{ℕ, zero, suc, ◌+◌, ◌*◌, ◌/◌, ◌%◌, ◌^◌, ◌<◌}
 use native.Mathlib.Nat.{div-div-eq-div-mul, div-one}
 use native.Mathlib.Omega.{arith}
-use lib.Bits.{bit_and, bit_or, and_block, or_block, and_le_r}
+use lib.Bits.{bit_and, bit_or, and_block, or_block}
 use lib.Dec.{eqb, lit<}
 use lib.ListN.{get_or, length}
 use lib.Pow.{pow-add}

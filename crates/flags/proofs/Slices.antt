@@ -7,7 +7,7 @@ use native.Mathlib.Omega.{arith}
 use borrow.Author.Tests.{le-leb, lt-leb}
 use lib.ListN.{length, get_or, set}
 use lib.Seq.{sets, get_or-set_other}
-use Rattle.flags.specs.Bytes.{joined, bytes_of, AreBytes, each_byte, normal}
+use Rattle.flags.specs.Bytes.{joined, bytes_of, AreBytes}
 use Rattle.flags.specs.Bytes.{flags_of, four_from, eight_from, flags_at, put_eight}
 use Rattle.bits.specs.Map.{tabulate}
 use Rattle.flags.proofs.Joined.{flags_joined}

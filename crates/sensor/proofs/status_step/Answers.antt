@@ -5,20 +5,20 @@ use Rattle.sensor.proofs.status_step.Goals as goal
 
 pub returns-then-above : goal.returns-then-above
 unfolding status_of
-returns-then-above c = simp (c.enum_told-in-Interrupt-1.given.1, c.enum_told-in-Armed-1.given.1, c.if-above.true)
+returns-then-above c = simp (c.in-Interrupt.is, c.in-Armed.is, c.if-above.true)
 
 pub returns-then-below : goal.returns-then-below
 unfolding status_of
-returns-then-below c = simp (c.enum_told-in-Interrupt-1.given.1, c.enum_told-in-Hot-1.given.1, c.if-below.true)
+returns-then-below c = simp (c.in-Interrupt.is, c.in-Hot.is, c.if-below.true)
 
 pub returns-in-Comparator : goal.returns-in-Comparator
 unfolding status_of
-returns-in-Comparator c = simp (c.enum_told-1.given.1, c.mark_if.ensures)
+returns-in-Comparator c = simp (c.in-Comparator.is, c.mark_if.ensures)
 
 pub returns-else-above : goal.returns-else-above
 unfolding status_of
-returns-else-above c = simp (c.enum_told-in-Interrupt-1.given.1, c.enum_told-in-Armed-1.given.1, c.if-above.false)
+returns-else-above c = simp (c.in-Interrupt.is, c.in-Armed.is, c.if-above.false)
 
 pub returns-else-below : goal.returns-else-below
 unfolding status_of
-returns-else-below c = simp (c.enum_told-in-Interrupt-1.given.1, c.enum_told-in-Hot-1.given.1, c.if-below.false)
+returns-else-below c = simp (c.in-Interrupt.is, c.in-Hot.is, c.if-below.false)

@@ -1,6 +1,6 @@
 -- Signed numbers of a machine width, by their magnitudes: differences, and the machine's 0 - n.
 -- Over any width. Assumes nothing.
-use Rattle.std.proofs.Common.{◌≡◌, ℕ, zero, suc, ◌-◌, ◌^◌, ◌<◌, ◌≤◌, ℤ, pos, negsuc, ◌+ℤ◌, ◌-ℤ◌, neg_ℤ, sym, refl, ap, ◌∙◌, subst, arith, SFits, to_z, of_z, le-ltb, lt-ltb}
+use Rattle.std.proofs.Common.{◌≡◌, ℕ, zero, suc, ◌-◌, ◌^◌, ◌<◌, ◌≤◌, ℤ, pos, negsuc, ◌-ℤ◌, neg_ℤ, sym, refl, ap, ◌∙◌, subst, arith, SFits, to_z, of_z, le-ltb, lt-ltb}
 use lib.IntN.{sub_ℕ, +ℤ_idl}
 use lib.Signed.{mag}
 use mir.Syntax.{Width}

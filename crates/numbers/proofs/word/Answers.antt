@@ -1,6 +1,5 @@
 -- Two bytes counted big end first.
 -- Assumes nothing.
-use Rattle.std.proofs.Common.{rules}
 use Rattle.numbers.proofs.Words.{word_is}
 use Rattle.numbers.proofs.word.Goals as goal
 

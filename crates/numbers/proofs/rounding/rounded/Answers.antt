@@ -1,6 +1,6 @@
 -- The code is the definition at twice the width, and the quotient is no more than n.
 -- Assumes nothing.
-use Rattle.std.proofs.Common.{refl, rules}
+use Rattle.std.proofs.Common.{refl}
 use Rattle.numbers.specs.Rounding.{nearest}
 use Rattle.numbers.proofs.rounding.Quotients.{nearest_holds, by_zero}
 use Rattle.numbers.proofs.rounding.rounded.Goals as goal

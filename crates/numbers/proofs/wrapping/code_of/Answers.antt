@@ -1,8 +1,8 @@
 -- The machine reads back the number itself, which is below 0 or not, as at any width (Turned.antt).
 -- Assumes nothing.
-use Rattle.std.proofs.Common.{arith, lit<, w64, rules}
-use Rattle.numbers.proofs.twos_complement.Turned.{negative_fits, negative_casts, negative_is}
-use Rattle.numbers.proofs.twos_complement.Turned.{positive_casts, positive_is}
+use Rattle.std.proofs.Common.{lit<, w64}
+use Rattle.numbers.proofs.twos_complement.Turned.{negative_is}
+use Rattle.numbers.proofs.twos_complement.Turned.{positive_is}
 use Rattle.numbers.specs.Wrapping.{half64}
 use Rattle.numbers.proofs.wrapping.code_of.Goals as goal
 

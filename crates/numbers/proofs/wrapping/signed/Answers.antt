@@ -1,7 +1,7 @@
 -- The lower half is itself; in the upper it is -1 less what is left up to the last code (Turned.antt).
 -- Assumes nothing.
-use Rattle.std.proofs.Common.{le_refl, arith, w64, rules}
-use Rattle.numbers.proofs.twos_complement.Turned.{lower_signed, upper_fits, upper_signed}
+use Rattle.std.proofs.Common.{le_refl, arith, w64}
+use Rattle.numbers.proofs.twos_complement.Turned.{lower_signed, upper_signed}
 use Rattle.numbers.specs.Wrapping.{half64}
 use Rattle.numbers.proofs.wrapping.signed.Goals as goal
 

@@ -1,5 +1,5 @@
 use borrow.Author.Rules.{rules}
-use Rattle.status.proofs.StatusLaws.{count_few, count_fits, counts_set_bits}
+use Rattle.status.proofs.StatusLaws.{count_few, counts_set_bits}
 use Rattle.status.proofs.alarm_count.Goals as goal
 
 -- LEFT add-result : tie.Need-overflow-add-result

@@ -7,4 +7,4 @@ use Rattle.status.proofs.crossed.Goals as goal
 
 pub returns : goal.returns
 unfolding crossed_of
-returns c = (refl, crosses)
+returns c = record { equation = refl; claims = crosses }

@@ -6,22 +6,15 @@ use mir.Val.{SFits}
 use mir.ValLaws.{to_z-of_z}
 use borrow.Author.Rules.{rules}
 use Rattle.numbers.proofs.twos_complement.Complement.{byte_fits, kept_byte, widens}
-use Rattle.analog.proofs.whole_degrees.Statement.{statement}
-use Rattle.analog.proofs.whole_degrees.Tie as tie
-
-signed-requires : tie.Need-signed-requires
-signed-requires c κs = search rules
+use Rattle.analog.proofs.whole_degrees.Goals as goal
 
 fit : (c : tie.After-signed) → SFits w8 c.signed.result
 fit c = byte_fits c.before.args.code c.signed.result (search rules) c.signed.ensures.0
 
-cast-result : tie.Need-overflow-cast-result
-cast-result c =
-    let z = c.signed.result in
-    subst (SFits w8) (sym (to_z-of_z w16 z (widens z (fit c)))) (fit c)
+-- LEFT cast-result : tie.Need-overflow-cast-result
+-- cast-result c =
+--     let z = c.signed.result in
+--     subst (SFits w8) (sym (to_z-of_z w16 z (widens z (fit c)))) (fit c)
 
-returns : tie.Need-returns
+pub returns : goal.returns
 returns c = (kept_byte c.signed.result (fit c) ∙ c.signed.ensures.0, c.signed.ensures.1)
-
-pub whole-degrees-spec : {M : Type 1} → statement M
-whole-degrees-spec = tie.close (tie.spec signed-requires cast-result returns)

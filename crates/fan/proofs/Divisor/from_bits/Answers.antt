@@ -5,36 +5,35 @@ use Prim.Native.Nat.{ℕ, ◌+◌, ◌%◌, ◌≤◌}
 use mathlib.Core.Path.{◌≡◌}
 use Rattle.fan.specs.Count.{from_bits}
 use Rattle.fan.proofs.Divisors.{bits_of}
-use Rattle.fan.proofs.Divisor.from_bits.Statement.{statement}
-use Rattle.fan.proofs.Divisor.from_bits.Tie as tie
+use Rattle.fan.proofs.Divisor.from_bits.Goals as goal
 
-returns : tie.Need-returns
+pub returns-in-0 : goal.returns-in-0
 unfolding from_bits
-returns c = bits_of _ (rw c.match.keys1)
+returns-in-0 c = bits_of _ (rw c.in-0.keys1)
 
-returns-2 : tie.Need-returns-2
+pub returns-in-1 : goal.returns-in-1
 unfolding from_bits
-returns-2 c = bits_of _ (rw c.match.keys2)
+returns-in-1 c = bits_of _ (rw c.in-1.keys2)
 
-returns-3 : tie.Need-returns-3
+pub returns-in-2 : goal.returns-in-2
 unfolding from_bits
-returns-3 c = bits_of _ (rw c.match.keys3)
+returns-in-2 c = bits_of _ (rw c.in-2.keys3)
 
-returns-4 : tie.Need-returns-4
+pub returns-in-3 : goal.returns-in-3
 unfolding from_bits
-returns-4 c = bits_of _ (rw c.match.keys4)
+returns-in-3 c = bits_of _ (rw c.in-3.keys4)
 
-returns-5 : tie.Need-returns-5
+pub returns-in-4 : goal.returns-in-4
 unfolding from_bits
-returns-5 c = bits_of _ (rw c.match.keys5)
+returns-in-4 c = bits_of _ (rw c.in-4.keys5)
 
-returns-6 : tie.Need-returns-6
+pub returns-in-5 : goal.returns-in-5
 unfolding from_bits
-returns-6 c = bits_of _ (rw c.match.keys6)
+returns-in-5 c = bits_of _ (rw c.in-5.keys6)
 
-returns-7 : tie.Need-returns-7
+pub returns-in-6 : goal.returns-in-6
 unfolding from_bits
-returns-7 c = bits_of _ (rw c.match.keys7)
+returns-in-6 c = bits_of _ (rw c.in-6.keys7)
 
 above : (k : ℕ) {x : ℕ} → k ≤ x → (x ≡ k → ⊥) → k + 1 ≤ x
 above k h n = omega (arith, n)
@@ -51,14 +50,9 @@ left x r =
     r.0.1)
     r.1
 
-returns-8 : tie.Need-returns-8
+pub returns-in_default : goal.returns-in_default
 unfolding from_bits
-returns-8 c =
-    let h : 7 ≤ c.before.args.bits % 8 = left (c.before.args.bits % 8) c.match.rest in
-    let e : c.before.args.bits % 8 ≡ 7 = omega arith in
+returns-in_default c =
+    let h : 7 ≤ c.args.bits % 8 = left (c.args.bits % 8) c.in_default.rest in
+    let e : c.args.bits % 8 ≡ 7 = omega arith in
     bits_of _ (rw e)
-
-pub from-bits-spec : {M : Type 1} → statement M
-from-bits-spec =
-    tie.close
-    (tie.spec returns returns-2 returns-3 returns-4 returns-5 returns-6 returns-7 returns-8)

@@ -5,7 +5,6 @@ use mathlib.Core.Path.{◌≡◌, ap, sym, ◌∙◌}
 use mathlib.Core.Bool.{true, false}
 use mir.Syntax.{w16}
 use mir.ValLaws.{to_z-of_z}
-use borrow.Author.Rules.{rules}
 use Rattle.numbers.specs.TwosComplement.{half9, code_of}
 use Rattle.analog.specs.Temperature.{outside}
 use Rattle.numbers.proofs.twos_complement.Complement.{code_lt}
@@ -25,12 +24,6 @@ returns-then-is_outside c =
 --     let z = read w16 c.before.before.before.args.halves in
 --     let h = held z (sym c.before.before.is-outside.ensures ∙ c.before.if1.false) in
 --     record { fits = omega (arith, c.code_of_lem.ensures, code_lt half9 z h) }
-
--- LEFT cast-t8 : tie.Need-overflow-cast-t8
--- cast-t8 c = search rules
-
--- LEFT mul-t9 : tie.Need-overflow-mul-t9
--- mul-t9 c = search rules
 
 pub returns : goal.returns
 returns c =

@@ -9,7 +9,7 @@ use Rattle.analog.proofs.half_degrees.Goals as goal
 
 pub returns : goal.returns
 returns c = (
-  to_z-of_z w16 c.signed.result (record { sfits = c.signed.type-inv }) ∙ c.signed.ensures.0
+  to_z-of_z w16 c.signed.result (record { sfits = c.signed.type_inv }) ∙ c.signed.ensures.0
       ∙ ap (signed_of half9) c.nine_bits.ensures.0,
   c.signed.ensures.1,
   nine_bits_hold,

@@ -15,10 +15,9 @@ use Rattle.analog.proofs.whole_code.Goals as goal
 --     let z = c.args.degrees in
 --     subst (SFits w16) (sym (to_z-of_z w8 z c.ranges.degrees)) (widens z c.ranges.degrees)
 
-is_code : (c : tie.After-code-of) → c.code_of_lem.result ≡ code_of half8 c.before.args.degrees
+is_code : (c : goal.After-code_of) → c.code_of.result ≡ code_of half8 c.args.degrees
 is_code c =
-    let s = c.before in
-    c.code_of_lem.ensures ∙ ap (λ (x : ℤ). code_of half8 x) (kept_wide s.args.degrees s.ranges.degrees)
+    c.code_of.ensures ∙ ap (λ (x : ℤ). code_of half8 x) (kept_wide c.args.degrees c.ranges.degrees)
 
 -- LEFT cast-result : tie.Need-overflow-cast-result
 -- cast-result c =

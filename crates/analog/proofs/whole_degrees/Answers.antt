@@ -8,8 +8,8 @@ use borrow.Author.Rules.{rules}
 use Rattle.numbers.proofs.twos_complement.Complement.{byte_fits, kept_byte, widens}
 use Rattle.analog.proofs.whole_degrees.Goals as goal
 
-fit : (c : tie.After-signed) → SFits w8 c.signed.result
-fit c = byte_fits c.before.args.code c.signed.result (search rules) c.signed.ensures.0
+fit : (c : goal.After-signed) → SFits w8 c.signed.result
+fit c = byte_fits c.args.code c.signed.result (search rules) c.signed.ensures.0
 
 -- LEFT cast-result : tie.Need-overflow-cast-result
 -- cast-result c =

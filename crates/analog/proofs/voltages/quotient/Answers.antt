@@ -10,9 +10,6 @@ use Rattle.numbers.proofs.Signs.{neg_fits, neg_back}
 use Rattle.analog.proofs.voltages.Voltages.{below, above, is_small}
 use Rattle.analog.proofs.voltages.quotient.Goals as goal
 
--- LEFT sub-rounded : tie.Need-overflow-sub-rounded
--- sub-rounded c = search rules
-
 -- LEFT cast-result : tie.Need-overflow-cast-result
 -- cast-result c = record { sfits = is_small _ _ c.rounded.ensures.0 (search rules) (search rules) }
 

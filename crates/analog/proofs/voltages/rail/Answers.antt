@@ -16,27 +16,24 @@ pub returns-then-not-is_resistor : goal.returns-then-not-is_resistor
 returns-then-not-is_resistor c = first_refused _ _ _ (sym c.is_resistor.ensures ∙ not-true _ c.if-not-is_resistor.true)
 
 -- what the tests say of the first resistor, and of the second
-first : (c : tie.Else1) → is_resistor c.before.before.args.r5 ≡ true
-first c = sym c.before.is-resistor.ensures ∙ not-false _ c.if1.false
+first : (c : goal.Else-not-is_resistor) → is_resistor c.args.r5 ≡ true
+first c = sym c.is_resistor.ensures ∙ not-false _ c.if-not-is_resistor.false
 
-second : (c : tie.Else2) → is_resistor c.before.before.before.before.args.r6 ≡ true
-second c = sym c.before.is-resistor2.ensures ∙ not-false _ c.if2.false
+second : (c : goal.Else-not-is_resistor-2) → is_resistor c.args.r6 ≡ true
+second c = sym c.is_resistor-2.ensures ∙ not-false _ c.if-not-is_resistor-2.false
 
 pub returns-then-not-is_resistor-2 : goal.returns-then-not-is_resistor-2
 returns-then-not-is_resistor-2 c =
     second_refused _ _ _ (first c.before)
     (sym c.is_resistor-2.ensures ∙ not-true _ c.if-not-is_resistor-2.true)
 
--- LEFT mul-quotient : tie.Need-overflow-mul-quotient
--- mul-quotient c = search rules
+r5-range : (c : goal.Else-not-is_resistor-2)
+    → (1 ≤ c.args.r5) × (c.args.r5 ≤ 1000)
+r5-range c = resistor_range c.args.r5 (first c.before)
 
-r5-range : (c : tie.Else2)
-    → (1 ≤ c.before.before.before.before.args.r5) × (c.before.before.before.before.args.r5 ≤ 1000)
-r5-range c = resistor_range c.before.before.before.before.args.r5 (first c.before.before)
-
-r6-range : (c : tie.Else2)
-    → (1 ≤ c.before.before.before.before.args.r6) × (c.before.before.before.before.args.r6 ≤ 1000)
-r6-range c = resistor_range c.before.before.before.before.args.r6 (second c)
+r6-range : (c : goal.Else-not-is_resistor-2)
+    → (1 ≤ c.args.r6) × (c.args.r6 ≤ 1000)
+r6-range c = resistor_range c.args.r6 (second c)
 
 -- LEFT add-quotient : tie.Need-overflow-add-quotient
 -- add-quotient c = omega (arith, (r5-range c).1, (r6-range c).1)
@@ -61,4 +58,4 @@ quotient-requires c =
 pub returns : goal.returns
 returns c =
     railed _ _ _ (first c.before) (second c.before)
-    (to_z-of_z w32 c.quotient.result (record { sfits = c.quotient.type-inv }) ∙ c.quotient.ensures)
+    (to_z-of_z w32 c.quotient.result (record { sfits = c.quotient.type_inv }) ∙ c.quotient.ensures)

@@ -1,23 +1,13 @@
 -- A quotient below 255 is stored as it is, and any other is capped. A divisor is not 0.
 -- Assumes nothing.
 use native.Mathlib.Omega.{arith}
-use borrow.Author.Rules.{rules}
 use Rattle.fan.specs.Count.{value_of}
 use Rattle.fan.proofs.Divisors.{value_pos}
 use Rattle.fan.proofs.Counts.{below_cap, at_cap}
 use Rattle.fan.proofs.divide.Goals as goal
 
--- LEFT cast-quotient : tie.Need-overflow-cast-quotient
--- cast-quotient c = search rules
-
 -- LEFT div-quotient : tie.Need-nonzero-div-quotient
 -- div-quotient c = omega (arith, value_pos c.before.before.args.divisor, c.before.value.ensures)
-
--- LEFT cast-if1 : tie.Need-overflow-cast-if1
--- cast-if1 c = search rules
-
--- LEFT cast-t7 : tie.Need-overflow-cast-t7
--- cast-t7 c = search rules
 
 pub returns-then-quotient : goal.returns-then-quotient
 returns-then-quotient c =

@@ -12,12 +12,6 @@ returns-then-count-eq0 c = record { equation = none_counted _ _ c.if-count-eq0.t
 pub returns-then-count : goal.returns-then-count
 returns-then-count c = record { equation = all_counted _ _ c.if-count-eq0.false c.if-count.true; claims = speed_claims }
 
--- LEFT cast-rounded : tie.Need-overflow-cast-rounded
--- cast-rounded c = search rules
-
--- LEFT cast-rounded-2 : tie.Need-overflow-cast-rounded-2
--- cast-rounded-2 c = search rules
-
 -- LEFT mul-rounded : tie.Need-overflow-mul-rounded
 -- mul-rounded c =
 --     let a = c.before.before.before.args in

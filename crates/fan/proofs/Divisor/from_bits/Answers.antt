@@ -9,31 +9,31 @@ use Rattle.fan.proofs.Divisor.from_bits.Goals as goal
 
 pub returns-in-0 : goal.returns-in-0
 unfolding from_bits
-returns-in-0 c = bits_of _ (rw c.in-0.keys1)
+returns-in-0 c = bits_of _ (rw c.in-0.is)
 
 pub returns-in-1 : goal.returns-in-1
 unfolding from_bits
-returns-in-1 c = bits_of _ (rw c.in-1.keys2)
+returns-in-1 c = bits_of _ (rw c.in-1.is)
 
 pub returns-in-2 : goal.returns-in-2
 unfolding from_bits
-returns-in-2 c = bits_of _ (rw c.in-2.keys3)
+returns-in-2 c = bits_of _ (rw c.in-2.is)
 
 pub returns-in-3 : goal.returns-in-3
 unfolding from_bits
-returns-in-3 c = bits_of _ (rw c.in-3.keys4)
+returns-in-3 c = bits_of _ (rw c.in-3.is)
 
 pub returns-in-4 : goal.returns-in-4
 unfolding from_bits
-returns-in-4 c = bits_of _ (rw c.in-4.keys5)
+returns-in-4 c = bits_of _ (rw c.in-4.is)
 
 pub returns-in-5 : goal.returns-in-5
 unfolding from_bits
-returns-in-5 c = bits_of _ (rw c.in-5.keys6)
+returns-in-5 c = bits_of _ (rw c.in-5.is)
 
 pub returns-in-6 : goal.returns-in-6
 unfolding from_bits
-returns-in-6 c = bits_of _ (rw c.in-6.keys7)
+returns-in-6 c = bits_of _ (rw c.in-6.is)
 
 above : (k : ℕ) {x : ℕ} → k ≤ x → (x ≡ k → ⊥) → k + 1 ≤ x
 above k h n = omega (arith, n)
@@ -53,6 +53,6 @@ left x r =
 pub returns-in_default : goal.returns-in_default
 unfolding from_bits
 returns-in_default c =
-    let h : 7 ≤ c.args.bits % 8 = left (c.args.bits % 8) c.in_default.rest in
+    let h : 7 ≤ c.args.bits % 8 = left (c.args.bits % 8) c.in_default.in_default-own.rest in
     let e : c.args.bits % 8 ≡ 7 = omega arith in
     bits_of _ (rw e)

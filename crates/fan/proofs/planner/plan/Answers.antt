@@ -1,7 +1,6 @@
 -- The three ways through the code are the cases of the computed plan; that this is the
 -- plan is proved in proofs/Planning. Assumes nothing.
 use native.Mathlib.Omega.{arith}
-use borrow.Author.Rules.{rules}
 use Rattle.fan.proofs.planner.Planning.{none_asked, too_much_asked, found, counts_of, promised}
 use Rattle.fan.proofs.planner.plan.Goals as goal
 
@@ -10,9 +9,6 @@ returns-then-w-eq0 c = promised _ (none_asked _ (omega (arith, c.if-w-eq0.true))
 
 pub returns-then-w-gt-PER_MINUTE : goal.returns-then-w-gt-PER_MINUTE
 returns-then-w-gt-PER_MINUTE c = promised _ (too_much_asked _ c.if-w-eq0.false (omega (arith, c.if-w-gt-PER_MINUTE.true)))
-
--- LEFT div-best-choice : tie.Need-nonzero-div-best-choice
--- div-best-choice c = search rules
 
 -- LEFT sub-t6 : tie.Need-overflow-sub-t6
 -- sub-t6 c =

@@ -7,12 +7,6 @@ use borrow.Author.Rules.{rules}
 use Rattle.fan.proofs.Divisors.{product_le}
 use Rattle.fan.proofs.planner.product.Goals as goal
 
--- LEFT cast-result : tie.Need-overflow-cast-result
--- cast-result c = search rules
-
--- LEFT cast-result-2 : tie.Need-overflow-cast-result-2
--- cast-result-2 c = search rules
-
 -- LEFT mul-result : tie.Need-overflow-mul-result
 -- mul-result c =
 --     let a = c.before.before.args.choice in

@@ -7,9 +7,6 @@ use borrow.Author.Rules.{rules}
 use Rattle.fan.proofs.Divisors.{product_le}
 use Rattle.fan.proofs.planner.rings_from.Goals as goal
 
--- LEFT add-count : tie.Need-overflow-add-count
--- add-count c = search rules
-
 -- LEFT mul-count : tie.Need-overflow-mul-count
 -- mul-count c =
 --     let a = c.before.args in

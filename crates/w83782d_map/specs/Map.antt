@@ -1,8 +1,8 @@
 -- The register map (rule M-1): a row for each row of the requirements paper, in its order, with the data
 -- sheet's power-on values. Lay the paper beside it: each comment names the row that the lines under it carry.
-use Rattle.std.specs.Prelude.{Bool, true, false, ◌&&◌, List, [], ◌∷◌, ℕ, ◌+◌, ◌-◌, ltb, eqb, length}
+use Rattle.std.specs.Prelude.{Bool, ◌&&◌, List, [], ◌∷◌, ℕ, ◌+◌, ◌-◌, ltb, eqb, length}
 use Rattle.bits.specs.Bits.{choose}
-use Rattle.bits.specs.Map.{Bank, any, bank, Span, span, Row, row, among, is_present, writable_bits, power_on_value}
+use Rattle.bits.specs.Map.{any, bank, Span, span, Row, row, among, is_present, writable_bits, power_on_value}
 
 -- writable: none, all
 abbrev none : ℕ

@@ -7,9 +7,6 @@ use Rattle.text.proofs.put_bytes.Goals as goal
 pub loop-i-init : goal.loop-i-init
 loop-i-init c = (omega arith, put_none _ _ (omega arith) (omega arith))
 
--- LEFT add-i : tie.Need-overflow-add-i invariant-loop decreases-loop
--- add-i c = search rules
-
 pub loop-i-preserved : goal.loop-i-preserved
 loop-i-preserved c = (search rules, search (rules, put_more))
 

@@ -1,0 +1,11 @@
+-- With no digit behind the point it is the number and the point, and otherwise its last digit is behind what is put of
+-- a tenth of it with a digit less.
+use borrow.Author.Rules.{rules}
+use Rattle.text.proofs.Point.{put_point, put_behind}
+use Rattle.text.proofs.+put_pointed.Goals as goal
+
+pub returns-then-digits-eq0 : goal.returns-then-digits-eq0
+returns-then-digits-eq0 t c = search (rules, put_point)
+
+pub returns : goal.returns
+returns t c = search (rules, put_behind)

@@ -2,12 +2,8 @@
 -- Assumes nothing.
 use native.Mathlib.Omega.{arith}
 use Rattle.fan.specs.Count.{value_of}
-use Rattle.fan.proofs.Divisors.{value_pos}
 use Rattle.fan.proofs.Counts.{below_cap, at_cap}
 use Rattle.fan.proofs.divide.Goals as goal
-
--- LEFT div-quotient : tie.Need-nonzero-div-quotient
--- div-quotient c = omega (arith, value_pos c.before.before.args.divisor, c.before.value.ensures)
 
 pub returns-then-quotient : goal.returns-then-quotient
 returns-then-quotient c =

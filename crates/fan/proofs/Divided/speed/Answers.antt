@@ -1,8 +1,5 @@
 -- The two counts that are no number, and the quotient. A count times a divisor fits.
 -- Assumes nothing.
-use native.Mathlib.Omega.{arith}
-use borrow.Author.Rules.{rules}
-use Rattle.fan.proofs.Divisors.{product_le}
 use Rattle.fan.proofs.Speeds.{none_counted, all_counted, counted, speed_claims}
 use Rattle.fan.proofs.Divided.speed.Goals as goal
 
@@ -11,11 +8,6 @@ returns-then-count-eq0 c = record { equation = none_counted _ _ c.if-count-eq0.t
 
 pub returns-then-count : goal.returns-then-count
 returns-then-count c = record { equation = all_counted _ _ c.if-count-eq0.false c.if-count.true; claims = speed_claims }
-
--- LEFT mul-rounded : tie.Need-overflow-mul-rounded
--- mul-rounded c =
---     let a = c.before.before.before.args in
---     rw c.value.ensures (omega (arith, product_le a.self.0 a.divisor (search rules)))
 
 pub returns : goal.returns
 returns c =

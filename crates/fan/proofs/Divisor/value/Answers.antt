@@ -1,14 +1,10 @@
 -- 1 shifted by an exponent below 8 is that power of 2, and fits a byte.
 -- Assumes nothing.
-use native.Mathlib.Omega.{arith}
 use Prim.Native.Nat.{ℕ, ◌*◌, ◌%◌, ◌^◌}
 use mathlib.Core.Path.{ap, ◌∙◌}
 use Rattle.fan.proofs.Divisors.{exponent_lt, shifted}
 use Rattle.fan.specs.Count.{exponent_of}
 use Rattle.fan.proofs.Divisor.value.Goals as goal
-
--- LEFT shl-result : tie.Need-overflow-shl-result
--- shl-result c = omega (arith, exponent_lt c.before.args.self, c.exponent.ensures)
 
 pub returns : goal.returns
 returns c =

@@ -15,12 +15,6 @@ loop-e-init c = (
       ∙ ap (λ (d : Divisor). choice_at c.args.k d) c.from_bits.ensures.0,
 )
 
--- LEFT add-from-bits : tie.Need-overflow-add-from-bits invariant-loop decreases-loop
--- add-from-bits c = omega arith
-
--- LEFT add-e : tie.Need-overflow-add-e invariant-loop decreases-loop
--- add-e c = omega arith
-
 pub loop-e-smaller : goal.loop-e-smaller
 loop-e-smaller c = omega arith
 

@@ -10,14 +10,13 @@ returns-then-w-eq0 c = promised _ (none_asked _ (omega (arith, c.if-w-eq0.true))
 pub returns-then-w-gt-PER_MINUTE : goal.returns-then-w-gt-PER_MINUTE
 returns-then-w-gt-PER_MINUTE c = promised _ (too_much_asked _ c.if-w-eq0.false (omega (arith, c.if-w-gt-PER_MINUTE.true)))
 
--- LEFT sub-t6 : tie.Need-overflow-sub-t6
--- sub-t6 c =
---     let b = c.before in
---     omega (
---       arith,
---       counts_of b.before.before.before.args.w b.best-choice.result b.before.before.if1.false
---           b.before.if2.false b.best-choice.ensures,
---     )
+pub overflow_sub-result : goal.overflow_sub-result
+overflow_sub-result c =
+    omega (
+      arith,
+      counts_of c.args.w c.best_choice-best.result c.if-w-eq0.false c.if-w-gt-PER_MINUTE.false
+          c.best_choice-best.ensures,
+    )
 
 pub returns : goal.returns
 returns c =

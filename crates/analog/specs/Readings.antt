@@ -1,5 +1,5 @@
 -- Millivolts (rules R-1, A-7).
-use Rattle.std.specs.Prelude.{ℕ, suc, ◌+◌, ◌*◌, ◌/◌, ◌≤◌, ◌<◌, ◌≡◌, Bool, not, ◌&&◌, ◌||◌, List, [], ◌∷◌, leb, ltb, ℤ, pos, negsuc, neg_ℤ, ◌-ℤ◌, get_or}
+use Rattle.std.specs.Prelude.{ℕ, suc, ◌+◌, ◌*◌, ◌≡◌, Bool, not, ◌&&◌, ◌||◌, List, [], ◌∷◌, leb, ltb, ℤ, pos, negsuc, neg_ℤ, ◌-ℤ◌, get_or}
 use Rattle.answers.specs.Answers as answers
 use Rattle.bits.specs.Bits.{choose}
 use Rattle.numbers.specs.Rounding.{nearest}

@@ -17,17 +17,17 @@ returns-then-is_outside c =
     let z = c.args.halves in
     let o : outside z ≡ true =
     sym (c.is_outside.ensures ∙ ap outside (to_z-of_z w16 z c.ranges.halves)) ∙ c.if-is_outside.true in
-    half_answered z _ (half_out z o)
+    let r = half_answered z _ (half_out z o) in record { equation = r.0; answer = r.1 }
 
--- LEFT cast-t6 : tie.Need-overflow-cast-t6
--- cast-t6 c =
---     let z = read w16 c.before.before.before.args.halves in
---     let h = held z (sym c.before.before.is-outside.ensures ∙ c.before.if1.false) in
---     record { fits = omega (arith, c.code_of_lem.ensures, code_lt half9 z h) }
+pub overflow_cast-result : goal.overflow_cast-result
+overflow_cast-result c =
+    let z = read w16 c.args.halves in
+    let h = held z (sym c.is_outside.ensures ∙ c.if-is_outside.false) in
+    record { fits = omega (arith, c.code_of-code.ensures, code_lt half9 z h) }
 
 pub returns : goal.returns
 returns c =
     let z = c.args.halves in
     let q : read w16 z ≡ z = to_z-of_z w16 z c.ranges.halves in
     let o : outside z ≡ false = sym (c.is_outside.ensures ∙ ap outside q) ∙ c.if-is_outside.false in
-    half_answered z _ (half_in z _ o (c.code_of-code.ensures ∙ ap (code_of half9) q))
+    let r = half_answered z _ (half_in z _ o (c.code_of-code.ensures ∙ ap (code_of half9) q)) in record { equation = r.0; answer = r.1 }

@@ -29,12 +29,13 @@ returns-in-0-to-2 c = (
 )
 
 pub returns-in-5-to-6 : goal.returns-in-5-to-6
-returns-in-5-to-6 c = (
-  c.rail.ensures
-      ∙ negative _ _ _ _ c.if-channel-lt3.false c.in_default-1.rest.0.1 c.in_default-1.rest.1
-      c.in-5-to-6.if-channel-lt7-own.true,
-  answers_hold,
-)
+returns-in-5-to-6 c =
+    let h = c.in-5-to-6 in (
+      c.rail.ensures
+          ∙ negative _ _ _ _ h.if-channel-lt3-own.false h.in_default-own.rest.0.1 h.in_default-own.rest.1
+          h.if-channel-lt7-own.true,
+      answers_hold,
+    )
 
 pub returns-in_default : goal.returns-in_default
 returns-in_default c = (no_channel _ _ _ _ c.in_default.if-channel-lt7-own.false, answers_hold)

@@ -6,24 +6,15 @@ use lib.IntN.{pos, neg_ℤ}
 use mir.Syntax.{w32}
 use mir.ValLaws.{to_z_pos}
 use borrow.Author.Rules.{rules}
-use Rattle.numbers.proofs.Signs.{neg_fits, neg_back}
+use Rattle.numbers.proofs.Signs.{neg_back}
 use Rattle.analog.proofs.voltages.Voltages.{below, above, is_small}
 use Rattle.analog.proofs.voltages.quotient.Goals as goal
-
--- LEFT cast-result : tie.Need-overflow-cast-result
--- cast-result c = record { sfits = is_small _ _ c.rounded.ensures.0 (search rules) (search rules) }
-
--- LEFT sub-result : tie.Need-overflow-sub-result
--- sub-result c = neg_fits w32 c.rounded.result (is_small _ _ c.rounded.ensures.0 (search rules) (search rules))
 
 pub returns-then-a-b : goal.returns-then-a-b
 returns-then-a-b c =
     neg_back w32 c.rounded.result (is_small _ _ c.rounded.ensures.0 (search rules) (search rules))
     ∙ ap (λ (n : ℕ). neg_ℤ (pos n)) c.rounded.ensures.0
     ∙ below _ _ _ c.if-a-b.true
-
--- LEFT cast-result-2 : tie.Need-overflow-cast-result-2
--- cast-result-2 c = record { sfits = is_small _ _ c.rounded2.ensures.0 (search rules) (search rules) }
 
 pub returns : goal.returns
 returns c =

@@ -12,5 +12,5 @@ returns c =
     let sum = c.number_at-sum in
     let is-line =
     put_figure_at _ _ args.figures.now args.place least.result greatest.result sum.result (search rules)
-    (search rules) (search rules) least.ensures greatest.ensures sum.ensures c.put_figure.ensures.0 in
+    (search rules) (search rules) least.ensures greatest.ensures sum.ensures c.put_figure.ensures.line in
     record { line = is-line; short = search rules }

@@ -38,7 +38,7 @@ def table():
     names = set()
     for path in antt_files():
         # what a function's own proof declares is named by the check
-        if os.path.basename(path) in ("Proof.antt", "Answers.antt", "Invariants.antt"):
+        if "/proofs/" in path and os.path.basename(path) in ("Proof.antt", "Answers.antt", "Invariants.antt"):
             continue
         with open(path, encoding="utf-8") as f:
             for m in DECLARED.finditer(f.read()):

@@ -9,8 +9,8 @@ use Rattle.analog.specs.declared.voltages.Reading.TheVariants.{Millivolts, Refus
 -- the number of the answer table; 8 by decision D-01
 abbrev pub reading_answer : Reading → ℕ
 reading_answer (Millivolts z) = 0
-reading_answer Refused = answers.noChannel
-reading_answer WrongLength = answers.wrongLength
+reading_answer Refused = answers.no_channel
+reading_answer WrongLength = answers.wrong_length
 
 -- the millivolts that are read; refused: 0
 abbrev pub reading_value : Reading → ℤ
@@ -54,7 +54,7 @@ millivolts_of channel c r5 r6 = get_or (voltages c r5 r6) channel Refused
 -- A-7: a channel above 6, or, on channels 5 and 6 only, what is no resistor
 abbrev pub answer_for : ℕ → ℕ → ℕ → ℕ
 answer_for channel r5 r6 =
-    choose (ltb 6 channel || ltb 4 channel && not (is_resistor r5 && is_resistor r6)) answers.noChannel 0
+    choose (ltb 6 channel || ltb 4 channel && not (is_resistor r5 && is_resistor r6)) answers.no_channel 0
 
 -- a reading is refused exactly when the answer table says so
 pub record VoltageAnswers : Type 0 where

@@ -18,25 +18,25 @@ abbrev pub stopped : ℕ
 stopped = 4
 
 -- A-5: no record
-abbrev pub badRecord : ℕ
-badRecord = 5
+abbrev pub bad_record : ℕ
+bad_record = 5
 
 -- A-6: no plan for the speed
-abbrev pub badSpeed : ℕ
-badSpeed = 6
+abbrev pub bad_speed : ℕ
+bad_speed = 6
 
 -- A-7: no such fan, sensor, output or voltage, or a resistor out of range
-abbrev pub noChannel : ℕ
-noChannel = 7
+abbrev pub no_channel : ℕ
+no_channel = 7
 
 -- A-8: a buffer, slice, image or list of codes of another length
-abbrev pub wrongLength : ℕ
-wrongLength = 8
+abbrev pub wrong_length : ℕ
+wrong_length = 8
 
 -- A-9: a bus write to the offset of a temperature
-abbrev pub offsetLocked : ℕ
-offsetLocked = 9
+abbrev pub offset_locked : ℕ
+offset_locked = 9
 
 -- A-12: a whole record after those of a day
-abbrev pub dayFull : ℕ
-dayFull = 12
+abbrev pub day_full : ℕ
+day_full = 12

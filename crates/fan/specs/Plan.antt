@@ -9,7 +9,7 @@ use Rattle.fan.specs.Count.{per_minute, value_of, IsDivisor, stored_of, count_of
 -- the answer: a plan is accepted, none is A-6
 abbrev pub plan_answer : Planned → ℕ
 plan_answer (Plan d l) = 0
-plan_answer Refused = answers.badSpeed
+plan_answer Refused = answers.bad_speed
 
 -- the divisor d of a plan; of none 0
 abbrev pub plan_divisor : Planned → ℕ
@@ -45,7 +45,7 @@ is_no_speed w = eqb w 0 || ltb per_minute w
 
 -- it is answered 6, any other is accepted
 abbrev pub answer_for : ℕ → ℕ
-answer_for w = choose (is_no_speed w) answers.badSpeed 0
+answer_for w = choose (is_no_speed w) answers.bad_speed 0
 
 -- the planner's answer to w: refused exactly when the table says so, and otherwise the plan
 pub record IsPlanned (w : ℕ) (p : Planned) : Type 0 where

@@ -13,8 +13,8 @@ abbrev pub speed_answer : Speed → ℕ
 speed_answer (Tenths n) = 0
 speed_answer TooFast = 0
 speed_answer TooSlow = 0
-speed_answer Refused = answers.noChannel
-speed_answer WrongLength = answers.wrongLength
+speed_answer Refused = answers.no_channel
+speed_answer WrongLength = answers.wrong_length
 
 -- the number that is read; 0 where there is none
 abbrev pub speed_value : Speed → ℕ

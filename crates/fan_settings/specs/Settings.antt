@@ -36,7 +36,7 @@ planned_registers rs f Refused = rs
 
 -- of n fans: A-7 before A-6
 abbrev pub set_answer : ℕ → ℕ → ℕ → ℕ
-set_answer n f w = choose (is_beyond n f) answers.noChannel (answer_for w)
+set_answer n f w = choose (is_beyond n f) answers.no_channel (answer_for w)
 
 -- ---- which settings those may be
 

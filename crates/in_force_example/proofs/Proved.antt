@@ -26,9 +26,9 @@ use Rattle.in_force.specs.Chip.{reset, writing, Whole}
 use Rattle.in_force.specs.Laws.{Keeps, Stores, Leaves, AnsweredAs, Takes, ChipLaws}
 use Rattle.in_force.proofs.Instances.{is_of, keeps_cells, within, is_wide, all_wide, bus_write}
 use Rattle.in_force.proofs.Chips.{every_chip}
-use Rattle.in_force_example.specs.Machine.{State, state, fan_of, mask_at, power_on, Call, write, visit}
+use Rattle.in_force_example.specs.Machine.{State, state, fan_of, mask_at, power_on, Call, write, look}
 use Rattle.in_force_example.specs.Machine.{sample, set_plan, put_back, count_of, is_reset, slow, back, registers_after}
-use Rattle.in_force_example.specs.Machine.{answer_to, visits_after, after, kind_of, machine, AlarmRings}
+use Rattle.in_force_example.specs.Machine.{answer_to, looks_after, after, kind_of, machine, AlarmRings}
 
 -- ---- where the settings lie
 sound : (f : ℕ) → 1 ≤ f → f ≤ 2 → is_sound 5 (fan_of f) ≡ true
@@ -41,7 +41,7 @@ fans_apart = all_apart 2 fan_of tt
 
 -- ---- a call: refused, or done
 view : (P : State → Type 0) (s : State) (c : Call)
-    → (answer_to s c ≡ 0 → P (state (registers_after s.registers c) (visits_after s.visits c)))
+    → (answer_to s c ≡ 0 → P (state (registers_after s.registers c) (looks_after s.looks c)))
     → (answer_to s c ≢ 0 → P s) → P (after s c)
 unfolding after
 view P s c done refused =
@@ -49,7 +49,7 @@ view P s c done refused =
     (λ e. refused (eqb-false (answer_to s c) 0 e))
 
 done : (s : State) (c : Call) → answer_to s c ≡ 0
-    → after s c ≡ state (registers_after s.registers c) (visits_after s.visits c)
+    → after s c ≡ state (registers_after s.registers c) (looks_after s.looks c)
 unfolding after
 done s c a = rw a
 
@@ -61,7 +61,7 @@ registers_whole : (rs : List ℕ) (c : Call) → length rs ≡ 5 → length (reg
 registers_whole rs (write k v) w =
     choose_ind (λ (ts : List ℕ). length ts ≡ 5) (is_reset k v) _ _ (λ _. refl)
     (λ _. changes_length (change k (mask_at k) v ∷ []) rs ∙ w)
-registers_whole rs visit w = w
+registers_whole rs look w = w
 registers_whole rs (sample a b) w = length-set rs 4 _ ∙ w
 registers_whole rs (set_plan f x) w = planned_length rs f (plan_of x) ∙ w
 registers_whole rs (put_back a b k₁ k₂) w = changes_length (back a b k₁ k₂) rs ∙ w
@@ -122,7 +122,7 @@ rings rs a b w (suc (suc zero)) h h' =
 rings rs a b w (suc (suc (suc f))) h h' = absurd (omega arith)
 
 leaves : (s : State) (c : Call) → Whole machine s → answer_to s c ≡ 0
-    → Leaves machine s (state (registers_after s.registers c) (visits_after s.visits c)) (kind_of c)
+    → Leaves machine s (state (registers_after s.registers c) (looks_after s.looks c)) (kind_of c)
 leaves s (write k v) w a =
     by (is_reset k v) refl
   where
@@ -132,10 +132,10 @@ leaves s (write k v) w a =
         (λ _ z. absurd (omega arith)) a)
 
     by : (t : Bool) → is_reset k v ≡ t
-        → Leaves machine s (state (registers_after s.registers (write k v)) s.visits) (kind_of (write k v))
+        → Leaves machine s (state (registers_after s.registers (write k v)) s.looks) (kind_of (write k v))
     by true e = simp e
     by false e = simp e (writes s.registers k v small)
-leaves s visit w a = record { limit = λ f h h'. refl; bits = λ f h h'. refl }
+leaves s look w a = record { limit = λ f h h'. refl; bits = λ f h h'. refl }
 leaves s (sample x y) w a = record { keeps = sample_keeps s.registers _; rings = rings s.registers x y w }
 leaves s (set_plan f x) w a = refl
 leaves s (put_back x y k₁ k₂) w a = puts_back s.registers x y k₁ k₂
@@ -147,7 +147,7 @@ answered : (s : State) (c : Call) → AnsweredAs machine (answer_to s c) (kind_o
 answered s (write k v) =
     choose_ind (AnsweredAs machine (answer_to s (write k v))) (is_reset k v) reset (writing (change k 0xFF v ∷ []))
     (λ _. tt) (λ _. tt)
-answered s visit = tt
+answered s look = tt
 answered s (sample a b) = tt
 answered s (set_plan f w) = rw (plan_of_is w).answer
 answered s (put_back a b k₁ k₂) = tt

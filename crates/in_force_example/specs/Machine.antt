@@ -17,10 +17,10 @@ use Rattle.in_force.specs.Chip.{Kind, reset, writing, planning, sampling, other,
 
 pub record State : Type 0 where
   pub registers : List ℕ
-  pub visits : ℕ
+  pub looks : ℕ
 
 abbrev pub state : List ℕ → ℕ → State
-state rs n = record { registers = rs; visits = n }
+state rs n = record { registers = rs; looks = n }
 
 abbrev pub place : Bit → Place
 place b = record { cell = 3; bit = b }
@@ -38,7 +38,7 @@ power_on = 1 ∷ 255 ∷ 255 ∷ 0 ∷ 0 ∷ []
 -- ---- the calls
 pub data Call : Type 0 where
   write : (cell value : ℕ) → Call
-  visit : Call
+  look : Call
   sample : (first second : ℕ) → Call
   set_plan : (fan speed : ℕ) → Call
   -- both limits, and the three bits k of each divisor
@@ -59,7 +59,7 @@ back a b k₁ k₂ = change 1 0xFF a ∷ change 2 0xFF b ∷ (digits_of (fan_of 
 
 abbrev pub registers_after : List ℕ → Call → List ℕ
 registers_after rs (write k v) = choose (is_reset k v) power_on (changes rs (change k (mask_at k) v ∷ []))
-registers_after rs visit = rs
+registers_after rs look = rs
 registers_after rs (sample a b) = set rs 4 (word (slow rs 1 a ∷ slow rs 2 b ∷ []))
 registers_after rs (set_plan f w) = planned_registers rs (fan_of f) (plan_of w)
 registers_after rs (put_back a b k₁ k₂) = changes rs (back a b k₁ k₂)
@@ -67,25 +67,25 @@ registers_after rs (put_back a b k₁ k₂) = changes rs (back a b k₁ k₂)
 -- cells from 4 on are not written, and samples wait for start
 abbrev pub answer_to : State → Call → ℕ
 answer_to s (write k v) = choose (ltb k 4) 0 answers.read_only
-answer_to s visit = 0
+answer_to s look = 0
 answer_to s (sample a b) = choose (is_on (get_or s.registers 0 0) 0) 0 answers.stopped
-answer_to s (set_plan f w) = choose (is_beyond 2 f) answers.noChannel (plan_answer (plan_of w))
+answer_to s (set_plan f w) = choose (is_beyond 2 f) answers.no_channel (plan_answer (plan_of w))
 answer_to s (put_back a b k₁ k₂) = 0
 
-abbrev pub visits_after : ℕ → Call → ℕ
-visits_after n visit = suc n
-visits_after n (write k v) = n
-visits_after n (sample a b) = n
-visits_after n (set_plan f w) = n
-visits_after n (put_back a b k₁ k₂) = n
+abbrev pub looks_after : ℕ → Call → ℕ
+looks_after n look = suc n
+looks_after n (write k v) = n
+looks_after n (sample a b) = n
+looks_after n (set_plan f w) = n
+looks_after n (put_back a b k₁ k₂) = n
 
 unfoldable pub after : State → Call → State
-after s c = choose (eqb (answer_to s c) 0) (state (registers_after s.registers c) (visits_after s.visits c)) s
+after s c = choose (eqb (answer_to s c) 0) (state (registers_after s.registers c) (looks_after s.looks c)) s
 
 -- ---- the machine as a chip
 abbrev pub kind_of : Call → Kind
 kind_of (write k v) = choose (is_reset k v) reset (writing (change k 0xFF v ∷ []))
-kind_of visit = other
+kind_of look = other
 kind_of (sample a b) = sampling (count_of a b)
 kind_of (set_plan f w) = planning f w
 kind_of (put_back a b k₁ k₂) = writing (back a b k₁ k₂)
@@ -97,7 +97,7 @@ machine =
       fans = 2;
       fan = fan_of;
       registers = λ s. s.registers;
-      instead = λ s rs. state rs s.visits;
+      instead = λ s rs. state rs s.looks;
       restored = λ rs. power_on;
       readings = λ s. get_or s.registers 4 0 ∷ [];
       real_time_bit = λ s f. bit (get_or s.registers 4 0) (f - 1);

@@ -6,13 +6,13 @@ use Rattle.image.specs.Image.{Called, called, read_word}
 use Rattle.w83782d_image.specs.Image.{state_in, on_image, after_write, after_read}
 
 unfoldable pub call_write : List ℕ → ℕ → ℕ → Called
-call_write im i v = on_image im (called im answers.wrongLength) (after_write im (write_of (state_in im) i v))
+call_write im i v = on_image im (called im answers.wrong_length) (after_write im (write_of (state_in im) i v))
 
 -- I-7: the word of a look, 8 with byte 0 for an image of another length; the image is lent to be read only
 unfoldable pub call_look : List ℕ → ℕ → ℕ
 call_look im i =
-    on_image im (read_word answers.wrongLength 0)
+    on_image im (read_word answers.wrong_length 0)
     (read_word (look_of (state_in im) i).answer (look_of (state_in im) i).byte)
 
 unfoldable pub call_read : List ℕ → ℕ → Called
-call_read im i = on_image im (called im (read_word answers.wrongLength 0)) (after_read im (read_of (state_in im) i))
+call_read im i = on_image im (called im (read_word answers.wrong_length 0)) (after_read im (read_of (state_in im) i))

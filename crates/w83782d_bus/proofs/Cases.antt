@@ -113,13 +113,13 @@ module _ (rs : List ℕ) (l : Latches) (i : ℕ) where
 
   module _ (h : length rs ≡ cells) (c : ℕ) (p : Bool) (e : c ≡ reach_of rs i) (f : p ≡ present_at c) where
     pub read_refused : not p ≡ true → read (state rs l) 1 0 ≡ sized_read rs l (read_of (state rs l) i)
-    unfolding read_of looked_of
+    unfolding read_of
     read_refused n = simp (eq-eqb (length rs) cells h, ← e, ← f, not-true p n)
 
     pub read_accepted : (ts : List ℕ) (m : Latches) (b : ℕ) → not p ≡ false → b ≡ shown_of rs l.chassis c
         → m ≡ read_latches rs l c → ts ≡ read_in rs c
         → read (state ts m) 0 b ≡ sized_read rs l (read_of (state rs l) i)
-    unfolding read_of looked_of
+    unfolding read_of
     read_accepted ts m b n g k j = simp (eq-eqb (length rs) cells h, ← e, ← f, not-false p n, ← g, ← k, j)
 
 -- a read by whether there is a register
@@ -129,10 +129,10 @@ pub read_cases : (s : State) (i : ℕ)
     (read (read_state s (reach_of s.registers i)) 0
     (shown_of s.registers s.latches.chassis (reach_of s.registers i)))
     (read s 1 0)
-unfolding read_of looked_of
+unfolding read_of
 read_cases s i = go (present_at (reach_of s.registers i)) _ _
   where
     go : (p : Bool) (t : State) (b : ℕ)
-        → leaving (choose p t s) (choose p (looked 0 b) (looked 1 0)) ≡ choose p (read (choose p t s) 0 b) (read s 1 0)
+        → choose p (read t 0 b) (read s 1 0) ≡ choose p (read (choose p t s) 0 b) (read s 1 0)
     go true t b = refl
     go false t b = refl

@@ -79,25 +79,31 @@ look_of s i = leaving s (looked_of s.registers s.latches.chassis i)
 unfoldable pub read_registers : List ℕ → ℕ → List ℕ
 read_registers rs c = choose (eqb c interrupt_status1 || eqb c interrupt_status2) (set rs c 0) rs
 
+abbrev pub read_at : State → ℕ → Read
+read_at s c =
+    choose (present_at c)
+    (read (state (read_registers s.registers c) (read_latches s.registers s.latches c)) 0
+    (shown_of s.registers s.latches.chassis c))
+    (read s answers.absent 0)
+
 -- the effect, where there is a register
 abbrev pub read_state : State → ℕ → State
 read_state s c =
     choose (present_at c) (state (read_registers s.registers c) (read_latches s.registers s.latches c)) s
 
 unfoldable pub read_of : State → ℕ → Read
-read_of s i =
-    leaving (read_state s (reach_of s.registers i)) (looked_of s.registers s.latches.chassis i)
+read_of s i = read_at s (reach_of s.registers i)
 
 -- ---- in place: a slice that is not the registers' 112 cells is refused as 8, and stays. decision D-01
 -- what the call gives where the slice fits, else 8 with the registers and these latches as they were
 abbrev pub sized : List ℕ → Latches → Written → Written
-sized rs l w = choose (fits rs) w (written (state rs l) answers.wrongLength)
+sized rs l w = choose (fits rs) w (written (state rs l) answers.wrong_length)
 
 abbrev pub sized_read : List ℕ → Latches → Read → Read
-sized_read rs l r = choose (fits rs) r (read (state rs l) answers.wrongLength 0)
+sized_read rs l r = choose (fits rs) r (read (state rs l) answers.wrong_length 0)
 
 abbrev pub looked_in : List ℕ → Bool → ℕ → Looked
-looked_in rs chassis i = choose (fits rs) (looked_of rs chassis i) (looked answers.wrongLength 0)
+looked_in rs chassis i = choose (fits rs) (looked_of rs chassis i) (looked answers.wrong_length 0)
 
 abbrev pub written_in : List ℕ → ℕ → ℕ → List ℕ
 written_in rs c v = choose (fits rs) (written_registers rs c v) rs

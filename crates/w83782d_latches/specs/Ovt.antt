@@ -11,7 +11,7 @@ use Rattle.w83782d_latches.specs.declared.Ovt.TheVariants.{Asserted, Released, R
 abbrev pub ovt_answer : Ovt → ℕ
 ovt_answer Asserted = 0
 ovt_answer Released = 0
-ovt_answer Refused = answers.noChannel
+ovt_answer Refused = answers.no_channel
 
 abbrev pub shown_ovt : Bool → Ovt
 shown_ovt asserted = choose asserted Asserted Released

@@ -19,5 +19,5 @@ fan_of f = fan_at (fan_limit f) (divisor_places f)
 -- whatever bank is selected, and whether or not samples are stopped; A-7 before A-6, refused with the state as it was
 unfoldable pub set_plan_of : State → ℕ → ℕ → Written
 set_plan_of s f w =
-    choose (is_beyond fans f) (written s answers.noChannel)
+    choose (is_beyond fans f) (written s answers.no_channel)
     (written (state (planned_registers s.registers (fan_of f) (plan_of w)) s.latches) (plan_answer (plan_of w)))

@@ -11,11 +11,11 @@ use Rattle.w83782d_readings.specs.Readings.{voltage_of, speed_of, temperature_of
 
 -- 8 exactly for a slice that is not the registers' 112 cells, and of the registers this answer
 abbrev pub sized_answer : List ℕ → ℕ → ℕ
-sized_answer rs a = choose (fits rs) a answers.wrongLength
+sized_answer rs a = choose (fits rs) a answers.wrong_length
 
 -- 7 exactly for a number that is not 1 to the last
 abbrev pub answer_to : ℕ → ℕ → ℕ
-answer_to last n = choose (is_beyond last n) answers.noChannel 0
+answer_to last n = choose (is_beyond last n) answers.no_channel 0
 
 -- the whole answer, 8 before 7; what is refused reads 0
 pub record ReadingClaims : Type 0 where

@@ -36,7 +36,7 @@ outputs_of rs chassis = choose (fits rs) (Shown (smi_of rs chassis) (standing_al
 -- the number of the answer table
 abbrev pub outputs_answer : Outputs → ℕ
 outputs_answer (Shown smi alarms) = 0
-outputs_answer WrongLength = answers.wrongLength
+outputs_answer WrongLength = answers.wrong_length
 
 -- ---- what is claimed of the alarms that stand
 

@@ -24,8 +24,8 @@ use Rattle.w83782d_readings.specs.declared.Duty.TheVariants as duty
 -- the number of the answer table; a sensor other than 1 to 3 is refused as 7, as a fan is. decision D-48
 abbrev pub temperature_answer : Temperature → ℕ
 temperature_answer (temperature.HalfDegrees z) = 0
-temperature_answer temperature.Refused = answers.noChannel
-temperature_answer temperature.WrongLength = answers.wrongLength
+temperature_answer temperature.Refused = answers.no_channel
+temperature_answer temperature.WrongLength = answers.wrong_length
 
 -- the half degrees that are read; refused: 0
 abbrev pub temperature_value : Temperature → ℤ
@@ -36,8 +36,8 @@ temperature_value temperature.WrongLength = pos 0
 -- the number of the answer table; a PWM output other than 1 to 4 is refused as 7. decision D-24
 abbrev pub duty_answer : Duty → ℕ
 duty_answer (duty.Parts n) = 0
-duty_answer duty.Refused = answers.noChannel
-duty_answer duty.WrongLength = answers.wrongLength
+duty_answer duty.Refused = answers.no_channel
+duty_answer duty.WrongLength = answers.wrong_length
 
 -- the parts that are read; refused: 0
 abbrev pub duty_value : Duty → ℕ

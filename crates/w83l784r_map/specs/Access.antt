@@ -12,7 +12,7 @@ use Rattle.w83l784r_map.specs.Cells.{configuration}
 unfoldable pub write_answer : ℕ → ℕ
 write_answer c =
     choose (present_at c)
-    (choose (offset_at c) answers.offsetLocked
+    (choose (offset_at c) answers.offset_locked
     (choose (eqb (writable_at c) 0) answers.read_only 0))
     answers.absent
 

@@ -21,11 +21,14 @@
 #![tactic(auto)]
 
 use fan::Undivided;
-use libc::STDOUT_FILENO;
+use std::io;
 use text::{put_byte, put_bytes, put_decimal};
 use text_hex::put_small_hex;
 use w83782d::Monitor;
 use w83782d_layout::samples::Sample;
+
+// A line has a hundred bytes or so.
+const LINE_ROOM: usize = 4096;
 
 fn byte_at(m: Monitor, index: u8) -> u8 {
     let done = m.read(index);
@@ -90,36 +93,44 @@ fn put_report(out: &mut [u8], m: Monitor, name: &[u8], answer: u8) -> usize {
     put_byte(out, next, b'\n')
 }
 
-fn write_line(line: &[u8], end: usize) {
+fn write_line(rt: &impl Print, line: &[u8], end: usize) -> io::Result<()> {
     if end <= line.len() {
-        io::write_all(STDOUT_FILENO, &line[0..end]);
+        return rt.write_all(&line[0..end]);
     }
+    Ok(())
 }
 
-fn report(m: Monitor, name: &[u8], answer: u8) {
-    let mut line = io::buffer();
+fn report(rt: &impl Print, m: Monitor, name: &[u8], answer: u8) -> io::Result<()> {
+    let mut line = [0u8; LINE_ROOM];
     let end = put_report(&mut line, m, name, answer);
-    write_line(&line, end);
+    write_line(rt, &line, end)
 }
 
 // ---- Steps
 
-fn plan(m: Monitor, name: &[u8], fan: u8, rpm: u32) -> Monitor {
+fn plan(rt: &impl Print, m: Monitor, name: &[u8], fan: u8, rpm: u32) -> io::Result<Monitor> {
     let done = m.set_plan(fan, rpm);
     let after = done.monitor;
-    report(after, name, done.answer);
-    after
+    report(rt, after, name, done.answer)?;
+    Ok(after)
 }
 
-fn write(m: Monitor, name: &[u8], index: u8, value: u8) -> Monitor {
+fn write(rt: &impl Print, m: Monitor, name: &[u8], index: u8, value: u8) -> io::Result<Monitor> {
     let done = m.write(index, value);
     let after = done.monitor;
-    report(after, name, done.answer);
-    after
+    report(rt, after, name, done.answer)?;
+    Ok(after)
 }
 
 // A sample with these undivided counts.
-fn sample(m: Monitor, name: &[u8], u1: u32, u2: u32, u3: u32) -> Monitor {
+fn sample(
+    rt: &impl Print,
+    m: Monitor,
+    name: &[u8],
+    u1: u32,
+    u2: u32,
+    u3: u32,
+) -> io::Result<Monitor> {
     let x = Sample {
         codes: [0, 0, 0, 0, 0, 0, 0],
         sensor1: 0,
@@ -128,72 +139,73 @@ fn sample(m: Monitor, name: &[u8], u1: u32, u2: u32, u3: u32) -> Monitor {
     };
     let done = m.sample(x);
     let after = done.monitor;
-    report(after, name, done.answer);
-    after
+    report(rt, after, name, done.answer)?;
+    Ok(after)
 }
 
-fn two_fans(start: Monitor) -> Monitor {
+fn two_fans(rt: &impl Print, start: Monitor) -> io::Result<Monitor> {
     let mut m = start;
-    m = plan(m, b"1 at 4400", 1, 4400);
-    m = sample(m, b"u 305", 305, 0, 0);
-    m = sample(m, b"u 306", 306, 0, 0);
-    m = plan(m, b"2 at 42", 2, 42);
-    m = sample(m, b"2 not slow", 305, 32127, 0);
-    m = sample(m, b"2 slow", 306, 32128, 0);
-    m
+    m = plan(rt, m, b"1 at 4400", 1, 4400)?;
+    m = sample(rt, m, b"u 305", 305, 0, 0)?;
+    m = sample(rt, m, b"u 306", 306, 0, 0)?;
+    m = plan(rt, m, b"2 at 42", 2, 42)?;
+    m = sample(rt, m, b"2 not slow", 305, 32127, 0)?;
+    m = sample(rt, m, b"2 slow", 306, 32128, 0)?;
+    Ok(m)
 }
 
 // The accident: a tool writes the whole of 47h.
-fn rewritten(start: Monitor) -> Monitor {
+fn rewritten(rt: &impl Print, start: Monitor) -> io::Result<Monitor> {
     let mut m = start;
-    m = write(m, b"47h 90", 0x47, 0x90);
-    m = sample(m, b"u 305", 305, 0, 0);
-    m = sample(m, b"u 306", 306, 0, 0);
-    m = write(m, b"47h C0", 0x47, 0xc0);
-    m = sample(m, b"u 305", 305, 0, 0);
-    m
+    m = write(rt, m, b"47h 90", 0x47, 0x90)?;
+    m = sample(rt, m, b"u 305", 305, 0, 0)?;
+    m = sample(rt, m, b"u 306", 306, 0, 0)?;
+    m = write(rt, m, b"47h C0", 0x47, 0xc0)?;
+    m = sample(rt, m, b"u 305", 305, 0, 0)?;
+    Ok(m)
 }
 
-fn aliased(start: Monitor) -> Monitor {
+fn aliased(rt: &impl Print, start: Monitor) -> io::Result<Monitor> {
     let mut m = start;
-    m = plan(m, b"1 again", 1, 4400);
-    m = write(m, b"7Bh 98", 0x7b, 0x98);
-    m = sample(m, b"u 305", 305, 0, 0);
-    m = sample(m, b"u 306", 306, 0, 0);
-    m = write(m, b"7Bh 10", 0x7b, 0x10);
-    m = sample(m, b"u 40", 40, 0, 0);
-    m
+    m = plan(rt, m, b"1 again", 1, 4400)?;
+    m = write(rt, m, b"7Bh 98", 0x7b, 0x98)?;
+    m = sample(rt, m, b"u 305", 305, 0, 0)?;
+    m = sample(rt, m, b"u 306", 306, 0, 0)?;
+    m = write(rt, m, b"7Bh 10", 0x7b, 0x10)?;
+    m = sample(rt, m, b"u 40", 40, 0, 0)?;
+    Ok(m)
 }
 
-fn stopped(start: Monitor) -> Monitor {
+fn stopped(rt: &impl Print, start: Monitor) -> io::Result<Monitor> {
     let mut m = start;
-    m = write(m, b"bank 3", 0x4e, 0x03);
-    m = write(m, b"standby", 0x40, 0x00);
-    m = plan(m, b"3 at 5295", 3, 5295);
-    m = sample(m, b"stopped", 0, 0, 254);
-    m = write(m, b"start", 0x40, 0x01);
-    m = sample(m, b"3 not slow", 0, 0, 253);
-    m = sample(m, b"3 slow", 0, 0, 254);
-    m
+    m = write(rt, m, b"bank 3", 0x4e, 0x03)?;
+    m = write(rt, m, b"standby", 0x40, 0x00)?;
+    m = plan(rt, m, b"3 at 5295", 3, 5295)?;
+    m = sample(rt, m, b"stopped", 0, 0, 254)?;
+    m = write(rt, m, b"start", 0x40, 0x01)?;
+    m = sample(rt, m, b"3 not slow", 0, 0, 253)?;
+    m = sample(rt, m, b"3 slow", 0, 0, 254)?;
+    Ok(m)
 }
 
-fn refused(start: Monitor) -> Monitor {
+fn refused(rt: &impl Print, start: Monitor) -> io::Result<Monitor> {
     let mut m = start;
-    m = plan(m, b"fan 4", 4, 4400);
-    m = plan(m, b"fan 0 at 0", 0, 0);
-    m = plan(m, b"3 at 0", 3, 0);
-    m = plan(m, b"3 at 1350001", 3, 1350001);
-    m = sample(m, b"3 slow", 0, 0, 254);
-    m
+    m = plan(rt, m, b"fan 4", 4, 4400)?;
+    m = plan(rt, m, b"fan 0 at 0", 0, 0)?;
+    m = plan(rt, m, b"3 at 0", 3, 0)?;
+    m = plan(rt, m, b"3 at 1350001", 3, 1350001)?;
+    m = sample(rt, m, b"3 slow", 0, 0, 254)?;
+    Ok(m)
 }
 
-fn main() {
-    let mut m = two_fans(Monitor::power_on());
-    m = rewritten(m);
-    m = aliased(m);
-    m = stopped(m);
-    m = refused(m);
-    m = write(m, b"reset", 0x40, 0x80);
-    m = sample(m, b"u 1", 0, 0, 1);
-    m = sample(m, b"u 2", 0, 0, 2);
+fn main(rt: HostRuntime) -> io::Result<()> {
+    let mut m = two_fans(&rt, Monitor::power_on())?;
+    m = rewritten(&rt, m)?;
+    m = aliased(&rt, m)?;
+    m = stopped(&rt, m)?;
+    m = refused(&rt, m)?;
+    m = write(&rt, m, b"reset", 0x40, 0x80)?;
+    m = sample(&rt, m, b"u 1", 0, 0, 1)?;
+    sample(&rt, m, b"u 2", 0, 0, 2)?;
+    Ok(())
 }

@@ -3,7 +3,7 @@
 #![tactic(auto)]
 
 use fan::Undivided;
-use libc::STDOUT_FILENO;
+use std::io;
 use w83782d_layout::samples::Sample;
 use w83782d_record::{Decoded, Event, Kind};
 
@@ -17,55 +17,36 @@ fn unwritable() -> Sample {
     }
 }
 
-fn print_byte(byte: u8) {
-    io::write_all(STDOUT_FILENO, b" ");
-    io::print_hex(STDOUT_FILENO, byte as u64, 2);
+fn print_byte(rt: &impl Print, byte: u8) -> io::Result<()> {
+    print!(rt; " {byte:02x}")
 }
 
-fn print_bytes(bytes: &[u8]) {
-    let mut i = 0;
-    while i < bytes.len() {
-        print_byte(bytes[i]);
-        i += 1;
+fn print_bytes(rt: &impl Print, bytes: &[u8]) -> io::Result<()> {
+    for byte in bytes {
+        print_byte(rt, *byte)?;
     }
-    io::write_all(STDOUT_FILENO, b"\n");
+    println!(rt)
 }
 
-fn print_kind(kind: Kind) {
+fn print_kind(rt: &impl Print, kind: Kind) -> io::Result<()> {
     match kind {
-        Kind::Write { index, value } => {
-            io::write_all(STDOUT_FILENO, b"write");
-            print_byte(index);
-            print_byte(value);
-        }
-        Kind::Read { index } => {
-            io::write_all(STDOUT_FILENO, b"read");
-            print_byte(index);
-        }
-        Kind::Sample => {
-            io::write_all(STDOUT_FILENO, b"sample");
-        }
-        Kind::Chassis => {
-            io::write_all(STDOUT_FILENO, b"chassis");
-        }
+        Kind::Write { index, value } => println!(rt; "write {index:02x} {value:02x}"),
+        Kind::Read { index } => println!(rt; "read {index:02x}"),
+        Kind::Sample => println!(rt; "sample"),
+        Kind::Chassis => println!(rt; "chassis"),
     }
-    io::write_all(STDOUT_FILENO, b"\n");
 }
 
-fn print_decoded(bytes: &[u8]) {
+fn print_decoded(rt: &impl Print, bytes: &[u8]) -> io::Result<()> {
     let record = w83782d_record::decode(bytes);
     let decoded = record.decoded;
     match decoded {
-        Decoded::Event(kind) => print_kind(kind),
-        Decoded::Refused(answer) => {
-            io::write_all(STDOUT_FILENO, b"refused");
-            print_byte(answer);
-            io::write_all(STDOUT_FILENO, b"\n");
-        }
+        Decoded::Event(kind) => print_kind(rt, kind),
+        Decoded::Refused(answer) => println!(rt; "refused {answer:02x}"),
     }
 }
 
-fn main() {
+fn main(rt: HostRuntime) -> io::Result<()> {
     let sample = unwritable();
     let event = Event {
         kind: Kind::Write {
@@ -76,10 +57,9 @@ fn main() {
     };
     let mut bytes = [0xFFu8; 32];
     let answer = w83782d_record::write_record(event, &mut bytes);
-    io::write_all(STDOUT_FILENO, b"answer");
-    print_byte(answer);
-    io::write_all(STDOUT_FILENO, b"\nrecord");
-    print_bytes(&bytes);
-    io::write_all(STDOUT_FILENO, b"decoded ");
-    print_decoded(&bytes);
+    println!(rt; "answer {answer:02x}")?;
+    print!(rt; "record")?;
+    print_bytes(&rt, &bytes)?;
+    print!(rt; "decoded ")?;
+    print_decoded(&rt, &bytes)
 }

@@ -6,7 +6,9 @@ mod bus;
 mod lines;
 mod samples;
 
-fn main() {
-    bus::session();
-    samples::session();
+use std::io;
+
+fn main(rt: HostRuntime) -> io::Result<()> {
+    bus::session(&rt)?;
+    samples::session(&rt)
 }

@@ -45,7 +45,7 @@ abbrev pub called : List ℕ → ℕ → Called
 called im r = record { image = im; gives = r }
 
 -- an image of another length is refused, and stays. decision D-01
-abbrev pub on_size : {A : Type 0} → Layout → List ℕ → A → A → A
+abbrev pub on_size : Layout → List ℕ → Called → Called → Called
 on_size y im refused c = choose (eqb (length im) y.size) c refused
 
 -- answer * 256 + byte

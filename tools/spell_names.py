@@ -4,6 +4,7 @@ puts_at. Types and modules keep their capitals; functions, fields and strings of
 
 usage: tools/spell_names.py          once, at the top of the repository, after the kit's own script
        tools/spell_names.py --edits  the texts of must-fail/*.edit, by the table that the first call wrote
+       tools/spell_names.py --pages  the code spans of the pages, by that table; notes of landings stay as they were
 
 Where two names would fall together, the one that is snake case already keeps its name, or else the definition (written
 with capitals) gets the plain name; the other one gets _law behind it. The table stands in tools/spelling.tsv.
@@ -33,8 +34,7 @@ def antt_files():
         yield from sorted(glob.glob(f"crates/*/{kind}/**/*.antt", recursive=True))
 
 
-def table():
-    """Each declared name that changes, with its new spelling."""
+def declared():
     names = set()
     for path in antt_files():
         # what a function's own proof declares is named by the check
@@ -43,6 +43,12 @@ def table():
         with open(path, encoding="utf-8") as f:
             for m in DECLARED.finditer(f.read()):
                 names.update(n for n in m[1].split() if re.fullmatch(r"[a-z][\w'-]*", n))
+    return names
+
+
+def table():
+    """Each declared name that changes, with its new spelling."""
+    names = declared()
     together = collections.defaultdict(list)
     for n in sorted(names):
         together[snake(n)].append(n)
@@ -99,9 +105,20 @@ def write(path, turn):
 
 
 def main(args):
-    if args == ["--edits"]:
+    if args in (["--edits"], ["--pages"]):
         with open(TABLE, encoding="utf-8") as f:
             rows = dict(line.rstrip("\n").split("\t") for line in f)
+    if args == ["--pages"]:
+        # What is in snake case is a function's name there, too. The kit's script spelled some names before this one did.
+        rows = {o: n for o, n in rows.items() if re.search("[A-Z-]", o)}
+        names = declared()
+        word = lambda w: rows.get(w, snake(w) if re.match("[a-z]", w) and snake(w) in names else w)
+        span = lambda m: PROSE.sub(lambda w: word(w[0]), m[0])
+        pages = ["README.md", "CONTRIBUTING.md", *sorted(glob.glob("docs/*.md"))]
+        n = sum(write(path, lambda line: re.sub("`[^`]*`", span, line)) for path in pages)
+        print(f"{n} pages changed")
+        return 0
+    if args == ["--edits"]:
         n = 0
         for path in sorted(glob.glob("crates/*/must-fail/*.edit")):
             n += write(path, lambda line: line_turned(line, rows, "--") if re.match("(old|new):", line) else line)

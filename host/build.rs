@@ -5,19 +5,19 @@ use std::fs;
 use std::path::PathBuf;
 use std::process::exit;
 
-/// Names the folder of the archive, where it is not `../target/staticlib`.
+/// Names the folder of the archive, where it is not the one in which `rt lib` leaves it.
 const FOLDER: &str = "W83782D_LIB_DIR";
 
 fn main() {
-    let folder = env::var_os(FOLDER).map_or("../target/staticlib".into(), PathBuf::from);
+    let folder = env::var_os(FOLDER).map_or("../crates/w83782d_c/out".into(), PathBuf::from);
     let archive = folder.join("libw83782d_c.a");
     println!("cargo:rerun-if-env-changed={FOLDER}");
     println!("cargo:rerun-if-changed={}", archive.display());
     if !archive.is_file() {
         eprintln!(
             "w83782d: there is no {}.\n\
-             Make it at the top of the repository with `rt staticlib w83782d_c`, \
-             or name the folder that has it in {FOLDER}.",
+             Make it in crates/w83782d_c with `rt lib`, or name the folder that has it in \
+             {FOLDER}.",
             archive.display()
         );
         exit(1);

@@ -2,8 +2,8 @@
  * Detects a W83782D as a driver on the bus would: both vendor bytes, chip,
  * device, bus address. Then three calls that are refused.
  *
- *     rt staticlib w83782d_c
- *     gcc -std=c11 -Iinclude examples/c/detect.c target/staticlib/libw83782d_c.a -o detect
+ *     (cd crates/w83782d_c && rt lib)
+ *     gcc -std=c11 -Iinclude examples/c/detect.c crates/w83782d_c/out/libw83782d_c.a -o detect
  *
  * The archive needs no other library; stdio is for this program's own lines.
  */

@@ -3,8 +3,8 @@
  * kept image, fan alarms, bus accesses, a sample a second, SMI and OVT, a log.
  * host/examples/firmware.rs is the same in Rust and prints the same lines.
  *
- *     rt staticlib w83782d_c
- *     gcc -std=c11 -Iinclude examples/c/firmware.c target/staticlib/libw83782d_c.a -o firmware
+ *     (cd crates/w83782d_c && rt lib)
+ *     gcc -std=c11 -Iinclude examples/c/firmware.c crates/w83782d_c/out/libw83782d_c.a -o firmware
  *
  * What the board would do comes first, as stand-ins that print. The archive needs
  * no other library; stdio and string are for this program's own lines.

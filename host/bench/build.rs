@@ -6,13 +6,13 @@ use std::path::Path;
 use std::process::exit;
 
 fn main() {
-    let folder = Path::new("../../target/staticlib");
+    let folder = Path::new("../../crates/w83782d_report_c/out");
     let archive = folder.join("libw83782d_report_c.a");
     println!("cargo:rerun-if-changed={}", archive.display());
     if !archive.is_file() {
         eprintln!(
             "bench: there is no {}.\n\
-             Make it at the top of the repository with `rt staticlib w83782d_report_c`.",
+             Make it in crates/w83782d_report_c with `rt lib`.",
             archive.display()
         );
         exit(1);

@@ -136,8 +136,8 @@ impl Job {
     /// The built program, then the second program's.
     fn programs(&self) -> [PathBuf; 2] {
         let top = Path::new(env!("CARGO_MANIFEST_DIR")).join("../..");
-        ["target/bin", "host/programs/target/release"]
-            .map(|folder| top.join(folder).join(self.program))
+        let built = format!("crates/{}/out", self.program);
+        [&*built, "host/programs/target/release"].map(|folder| top.join(folder).join(self.program))
     }
 
     fn command(&self, program: &Path, input: &Path, output: Stdio) -> Command {

@@ -7,11 +7,12 @@
 use crate::program::top;
 use std::env;
 use std::ffi::OsStr;
-use std::fs;
+use std::fs::{self, File};
 use std::io::{BufRead, BufReader};
 use std::os::unix::fs::PermissionsExt;
 use std::path::PathBuf;
 use std::process::{self, Command, Output, Stdio};
+use std::time::{Duration, SystemTime};
 
 /// Of these crates three are proved for `replay`, itself among them, and four for
 /// `day_report`.
@@ -44,11 +45,18 @@ const REPORT: Job = Job {
 
 const JOBS: [Job; 2] = [REPLAY, REPORT];
 
-/// What `rt` says where all is proved.
-const UNCHANGED: &str = "for crate in low middle replay; do
-    echo \"rt: $crate proved (unchanged since it was last proved)\"
-done
-echo 'rt: ok, 3 crates proved'";
+impl Job {
+    /// Where `rt` leaves the program.
+    fn built(self) -> String {
+        format!("crates/{0}/out/{0}", self.program)
+    }
+}
+
+/// A source that both programs stand on.
+const SOURCE: &str = "crates/low/src/lib.rt";
+
+/// What `rt` says where all is proved and built.
+const UNCHANGED: &str = "echo 'rt: nothing has changed since the last proved build, by its stamp'";
 
 struct Scratch {
     folder: PathBuf,
@@ -57,23 +65,30 @@ struct Scratch {
 
 impl Scratch {
     /// A folder that others may read, with the bundled log, an `rt` and the program of a
-    /// job; that of the other must not be started.
+    /// job, newer than its sources; that of the other must not be started.
     fn new(name: &str, rt: &str, job: Job, program: &str) -> Scratch {
         let name = format!("run-test-{}-{name}-{}", process::id(), job.program);
         let folder = env::temp_dir().join(name);
-        for part in ["bin", "examples", "target/bin"] {
+        for part in ["bin", "examples", "host", "crates/low/src"] {
             fs::create_dir_all(folder.join(part)).expect("a folder");
+        }
+        for Job { program, .. } in JOBS {
+            let out = folder.join("crates").join(program).join("out");
+            fs::create_dir_all(out).expect("a folder");
         }
         fs::set_permissions(&folder, fs::Permissions::from_mode(0o755)).expect("a mode");
         fs::write(folder.join("crates.txt"), CRATES).expect("a file");
+        fs::write(folder.join(SOURCE), "").expect("a file");
         fs::write(folder.join("examples/cabinet-day.log"), "bundled").expect("a file");
         let scratch = Scratch { folder, job };
-        scratch.install("run", &fs::read(top().join("run")).expect("./run"));
-        let mut scripts = vec![("bin/rt".into(), rt), ("bin/cargo".into(), NOTHING)];
-        for Job { program, .. } in JOBS {
-            scripts.push((format!("target/bin/{program}"), NOTHING));
+        for name in ["run", "host/build"] {
+            scratch.install(name, &fs::read(top().join(name)).expect("a script"));
         }
-        scripts.push((format!("target/bin/{}", job.program), program));
+        let mut scripts = vec![("bin/rt".into(), rt), ("bin/cargo".into(), NOTHING)];
+        for job in JOBS {
+            scripts.push((job.built(), NOTHING));
+        }
+        scripts.push((job.built(), program));
         for (path, text) in scripts {
             scratch.install(&path, format!("#!/bin/sh\n{text}\n").as_bytes());
         }
@@ -92,6 +107,14 @@ impl Scratch {
         let mut install = Command::new("install");
         install.arg("-m755").arg(source).arg(self.path(path));
         assert!(install.status().expect("install runs").success());
+    }
+
+    /// Has a source changed since the programs were built.
+    fn edit(&self) {
+        let source = File::options().write(true).open(self.path(SOURCE));
+        let later = SystemTime::now() + Duration::from_secs(60);
+        let changed = source.and_then(|source| source.set_modified(later));
+        changed.expect("the source is there");
     }
 
     /// A command in this folder, whose `rt` comes before any other.
@@ -139,9 +162,9 @@ impl Scratch {
 
     /// Whether anything was proved, built or run that must not be.
     fn has_started(&self) -> bool {
-        ["bin", "target/bin"]
-            .iter()
-            .any(|folder| self.path(folder).join("started").exists())
+        let folders = JOBS.map(|Job { program, .. }| format!("crates/{program}/out"));
+        let mut folders = folders.iter().map(|it| &**it).chain(["bin"]);
+        folders.any(|folder| self.path(folder).join("started").exists())
     }
 }
 
@@ -290,16 +313,30 @@ fn the_log_that_is_named_is_taken() {
     }
 }
 
-/// `rt` is asked for that one alone, and the other is not started.
+/// `rt` is asked for that one alone, in its crate's folder and with no log, and the
+/// other is not started.
 #[test]
 fn the_program_of_the_job_is_proved_and_run() {
     for job in JOBS {
-        let rt = format!("echo \"$*\" >>asked\n{UNCHANGED}");
+        let rt = format!("echo \"$*\" >>asked; cat >>asked\n{UNCHANGED}");
         let scratch = Scratch::new("program", &rt, job, &prints(job.end));
+        scratch.edit();
         let output = scratch.run(&[]);
         assert_eq!(texts(&output), [job.end, ""]);
-        let asked = fs::read_to_string(scratch.path("asked")).expect("rt was started");
-        assert_eq!(asked, format!("check {}\n", job.program));
+        let asked = scratch.path("crates").join(job.program).join("asked");
+        let asked = fs::read_to_string(asked).expect("rt was started there");
+        assert_eq!(asked, "run\n");
+        assert!(!scratch.has_started());
+    }
+}
+
+/// As `./test` leaves it.
+#[test]
+fn a_program_that_is_newer_than_its_sources_is_run_at_once() {
+    for job in JOBS {
+        let scratch = Scratch::new("newer", NOTHING, job, &prints(job.end));
+        let output = scratch.run(&[]);
+        assert_eq!(texts(&output), [job.end, ""]);
         assert!(!scratch.has_started());
     }
 }
@@ -399,15 +436,16 @@ fn it_ends_without_a_word_when_its_reader_goes() {
 
 #[test]
 fn a_program_that_is_not_built_is_told() {
-    let rt = "echo 'rt: low NOT PROVED (exit 1, 3 s)'; echo 'rt: FAILED: low' >&2; exit 1";
+    let rt = "echo 'fn low::a: not proved'; echo 'rt: low did not build' >&2; exit 1";
     for job in JOBS {
         let scratch = Scratch::new("not-built", rt, job, NOTHING);
+        scratch.edit();
         let output = scratch.run(&[]);
         let [out, error] = texts(&output);
         assert_eq!(output.status.code(), Some(1));
         assert_eq!(out, "");
         let lines =
-            "rt: low NOT PROVED (exit 1, 3 s)\nrt: FAILED: low\nrun: the program was not built\n";
+            "fn low::a: not proved\nrt: low did not build\nrun: the program was not built\n";
         assert_eq!(error, lines);
         assert!(!scratch.has_started());
     }
@@ -416,28 +454,28 @@ fn a_program_that_is_not_built_is_told() {
 // ---- Progress
 
 /// What `rt` says where nothing is proved yet, in some seconds.
-const PROVES: &str = "echo 'fn low::a: proved'
-echo 'rt: low proved (1 s)'
+const PROVES: &str = "name=$(basename \"$PWD\")
+echo 'rt: chose --jobs 2 for low'
+echo 'fn low::a: proved'
 sleep 2
-echo 'rt: middle proved (2 s)'
+echo 'rt: chose --jobs 2 for middle'
 sleep 2
-mv \"$2\" target/bin/
-echo \"rt: $2 proved (1 s)\"
-echo 'rt: ok, 3 crates proved'";
+echo \"rt: chose --jobs 2 for $name\"
+sleep 2
+mv \"../../$name\" out/";
 
 /// A scratch folder where the program is not there yet.
 fn not_built(name: &str, job: Job) -> Scratch {
     let scratch = Scratch::new(name, PROVES, job, &prints(job.end));
-    let built = scratch.path("target/bin").join(job.program);
-    fs::rename(built, scratch.path(job.program)).expect("it is there");
+    fs::rename(scratch.path(&job.built()), scratch.path(job.program)).expect("it is there");
     scratch
 }
 
 const ONCE: &str =
     "run: the program is proved and built first; this is done once, and takes some minutes";
 
-/// Of so many crates, by the program.
-fn hold_progress(job: Job, crates: usize) {
+/// How many of how many crates are proved, and the last of them.
+fn hold_progress(job: Job, steps: [&str; 2]) {
     let Some(shown) = not_built("progress", job).run_on_terminal() else {
         return;
     };
@@ -445,10 +483,8 @@ fn hold_progress(job: Job, crates: usize) {
     assert_eq!(lines.next(), Some(ONCE));
     let lines: Vec<&str> = lines.collect();
     let (last, before) = lines.split_last().expect("lines");
-    for step in [
-        format!("run: 1 of {crates} crates proved (last: low), "),
-        format!("run: 2 of {crates} crates proved (last: middle), "),
-    ] {
+    for step in steps {
+        let step = format!("run: {step}, ");
         assert!(
             before.iter().any(|line| line.starts_with(&step)),
             "{step}: {shown:?}"
@@ -463,27 +499,34 @@ fn hold_progress(job: Job, crates: usize) {
 
 #[test]
 fn progress_is_shown_on_a_terminal() {
-    hold_progress(REPLAY, 3);
+    let steps = [
+        "1 of 3 crates proved (last: low)",
+        "2 of 3 crates proved (last: middle)",
+    ];
+    hold_progress(REPLAY, steps);
 }
 
+/// A crate below it is unchanged, and `rt` does not name that.
 #[test]
 fn progress_of_a_report_is_shown_on_a_terminal() {
-    hold_progress(REPORT, 4);
+    let steps = [
+        "2 of 4 crates proved (last: other)",
+        "3 of 4 crates proved (last: middle)",
+    ];
+    hold_progress(REPORT, steps);
 }
 
-/// One crate is unchanged, and those above it take some seconds.
+/// `rt` looks at all crates for some seconds before it begins with one.
 #[test]
-fn progress_is_shown_where_something_has_changed() {
-    let rt = UNCHANGED.replace("done", "[ $crate = low ] || sleep 3; done");
+fn progress_is_shown_where_no_crate_is_named() {
+    let rt = format!("sleep 5\n{UNCHANGED}");
     let scratch = Scratch::new("changed", &rt, REPLAY, &prints(REPLAY.end));
+    scratch.edit();
     let Some(shown) = scratch.run_on_terminal() else {
         return;
     };
     assert!(shown.starts_with(ONCE), "{shown:?}");
-    assert!(
-        shown.contains("run: 2 of 3 crates proved (last: middle), "),
-        "{shown:?}"
-    );
+    assert!(shown.contains("run: 0 of 3 crates proved, "), "{shown:?}");
 }
 
 /// What would show progress has hardly begun when it is told to end: it has to.
@@ -491,7 +534,11 @@ fn progress_is_shown_where_something_has_changed() {
 fn nothing_is_shown_where_all_is_proved() {
     for job in JOBS {
         let scratch = Scratch::new("unchanged", UNCHANGED, job, &prints(job.end));
-        for _ in 0..20 {
+        for n in 0..20 {
+            // From then on rt is asked.
+            if n == 10 {
+                scratch.edit();
+            }
             assert_eq!(scratch.run_on_terminal().unwrap_or_default(), "");
         }
     }

@@ -199,7 +199,7 @@ fn many_arguments_are_answered_each() {
 fn readmes_and_the_gates_lines_are_expected_here_too() {
     let readme = fs::read_to_string(top().join("README.md")).expect("README");
     let mut shown = readme.lines().filter_map(|line| line.strip_prefix("    "));
-    let command = shown.find_map(|line| line.strip_prefix("target/bin/plan "));
+    let command = shown.find_map(|line| line.strip_prefix("rt run -- "));
     let speeds: Vec<&str> = command.expect("README shows plan").split(' ').collect();
     let lines = shown.take(speeds.len()).map(|line| format!("{line}\n"));
     let lines: String = lines.collect();

@@ -14,12 +14,12 @@ pub fn top() -> PathBuf {
     Path::new(env!("CARGO_MANIFEST_DIR")).join("../..")
 }
 
-/// A program that `rt check` has built.
+/// A program that `rt ci` or `rt run` has built.
 pub fn built(name: &str) -> Command {
-    let program = top().join("target/bin").join(name);
+    let program = top().join(format!("crates/{name}/out/{name}"));
     assert!(
         program.is_file(),
-        "there is no {}: make it at the top of the repository with `rt check {name}`",
+        "there is no {}: make it at the top of the repository with `host/build {name}`",
         program.display()
     );
     let mut command = Command::new(program);

@@ -7,7 +7,7 @@ use borrow.Author.Rules.{rules}
 use Rattle.w83782d_sample_words.proofs.put_sample.Goals as goal
 
 -- what a sample is as it comes in
-known : (c : goal.Start) → (mag c.args.sample.sensor1 < 128) × (length c.args.sample.remote ≡ 2)
+known : (c : goal.After-slice_known-6-1) → (mag c.args.sample.sensor1 < 128) × (length c.args.sample.remote ≡ 2)
 known c = (search rules, search rules)
 
 pub returns : goal.returns

@@ -1,6 +1,6 @@
 -- What a sample stores and when it is refused (rules S-1 to S-4, A-3, A-4). Rails are
 -- numbered 0 to 6, sensors and fans 1 to 3.
-use Rattle.std.specs.Prelude.{Bool, not, ◌||◌, List, [], ◌∷◌, ◌++◌, map, ℕ, ◌+◌, ◌-◌, eqb, ℤ, pos, get_or}
+use Rattle.std.specs.Prelude.{Bool, not, ◌||◌, List, [], ◌∷◌, ◌++◌, map, ℕ, ◌-◌, eqb, ℤ, pos, get_or}
 use Rattle.answers.specs.Answers as answers
 use Rattle.bits.specs.Bits.{choose, is_on}
 use Rattle.bits.specs.Stores.{Store, ◌≔◌, puts}

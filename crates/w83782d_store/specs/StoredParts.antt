@@ -1,5 +1,5 @@
 -- What the parts of the code ensure, in the words of Stored.antt.
-use Rattle.std.specs.Prelude.{List, [], ◌∷◌, ◌++◌, map, ℕ, ◌+◌, ℤ}
+use Rattle.std.specs.Prelude.{List, [], ◌∷◌, ◌++◌, map, ℕ, ℤ}
 use Rattle.bits.specs.Bits.{choose}
 use Rattle.bits.specs.Stores.{◌≔◌, puts}
 use Rattle.bits.specs.declared.Bit.{Bit}

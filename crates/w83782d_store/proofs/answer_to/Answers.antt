@@ -10,13 +10,13 @@ use Rattle.w83782d_store.proofs.answer_to.Goals as goal
 
 pub returns-then-is_outside : goal.returns-then-is_outside
 returns-then-is_outside c =
-    let x = c.args.t2 in
+    let x = c.args.x in
     let f : SFits w16 (sampled_halves x 2) = search rules in
     answer_2 _ x _ (c.is_outside.ensures ∙ ap outside (to_z-of_z w16 (sampled_halves x 2) f)) c.if-is_outside.true
 
 pub returns-then-is_outside-2 : goal.returns-then-is_outside-2
 returns-then-is_outside-2 c =
-    let x = c.args.t2 in
+    let x = c.args.x in
     let f : SFits w16 (sampled_halves x 2) = search rules in
     let g : SFits w16 (sampled_halves x 3) = search rules in
     answer_3 _ x _ (c.is_outside.ensures ∙ ap outside (to_z-of_z w16 (sampled_halves x 2) f))
@@ -25,7 +25,7 @@ returns-then-is_outside-2 c =
 
 pub returns-then-stopped : goal.returns-then-stopped
 returns-then-stopped c =
-    let x = c.args.t2 in
+    let x = c.args.x in
     let f : SFits w16 (sampled_halves x 2) = search rules in
     let g : SFits w16 (sampled_halves x 3) = search rules in
     answer_stopped _ x _ (c.is_outside.ensures ∙ ap outside (to_z-of_z w16 (sampled_halves x 2) f))
@@ -34,7 +34,7 @@ returns-then-stopped c =
 
 pub returns : goal.returns
 returns c =
-    let x = c.args.t2 in
+    let x = c.args.x in
     let f : SFits w16 (sampled_halves x 2) = search rules in
     let g : SFits w16 (sampled_halves x 3) = search rules in
     answer_accepted _ x _ (c.is_outside.ensures ∙ ap outside (to_z-of_z w16 (sampled_halves x 2) f))

@@ -13,7 +13,7 @@ returns-then-s-ne-CELLS c = search (rules, stored_short)
 
 pub returns : goal.returns
 returns c =
-    let x = c.args.t2 in
+    let x = c.args.x in
     let f : SFits w16 (sampled_halves x 2) = search rules in
     let g : SFits w16 (sampled_halves x 3) = search rules in
     readings_stored _ _ _ _ _ x c.store_counts.ensures c.store_codes.ensures

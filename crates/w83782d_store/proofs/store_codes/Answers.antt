@@ -26,6 +26,6 @@ shape_of-s c = simp length-set
 pub returns : goal.returns
 unfolding with_codes
 returns c =
-    let z = c.args.t2.sensor1 in
+    let z = c.args.x.sensor1 in
     let f : SFits w8 z = search rules in
-    rw (c.Whole-code.ensures ∙ ap (code_of half8) (to_z-of_z w8 z f))
+    rw (c.whole_code.ensures ∙ ap (code_of half8) (to_z-of_z w8 z f))

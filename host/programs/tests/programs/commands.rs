@@ -1,8 +1,8 @@
-//! The commands at the top of the repository: help, arguments, and `./run` and
-//! `./run report` on good and bad logs, with and without a terminal.
+//! The commands at the top of the repository: help, arguments, `./run` and `./run report`
+//! on good and bad logs, with and without a terminal, and how `./test` ends.
 //!
-//! `./run` is tried in a folder of its own, with an `rt` and a program that are scripts
-//! of a few lines: what they say is what it has to show.
+//! They are tried in a folder of their own, with an `rt` and a program that are scripts
+//! of a few lines: what these say is what they have to show.
 
 use crate::program::top;
 use std::env;
@@ -551,4 +551,75 @@ fn nothing_is_shown_without_a_terminal() {
         assert!(output.status.success(), "{output:?}");
         assert_eq!(texts(&output), [job.end, ""]);
     }
+}
+
+// ---- The whole test
+
+/// The line of `rt ci` that tells of the edits.
+const EDITS: &str =
+    "echo 'rt: ok; handles allowed: none; must-fail edits: 7 refused; done in this run: all'";
+
+const COUNT: &str = "echo '9 passed, 0 failed'";
+
+/// `./test` where `rt` and host/check are these scripts, and whether the second was started.
+fn tested(name: &str, rt: &str, check: &str) -> (Output, bool) {
+    let scratch = Scratch::new(name, rt, REPLAY, NOTHING);
+    scratch.install("test", &fs::read(top().join("test")).expect("./test"));
+    let check = format!("#!/bin/sh\ntouch checked\n{check}\n");
+    scratch.install("host/check", check.as_bytes());
+    let output = scratch.command("./test").output().expect("./test runs");
+    assert!(!scratch.has_started());
+    let is_checked = scratch.path("checked").exists();
+    (output, is_checked)
+}
+
+#[test]
+fn the_whole_test_ends_with_the_count_of_rt() {
+    for (n, count) in ["9 passed, 0 failed", "9 passed, 0 failed (and more)"]
+        .into_iter()
+        .enumerate()
+    {
+        let rt = format!("[ \"$*\" = ci ] || exit 1\n{EDITS}\necho '{count}'");
+        let (output, is_checked) = tested(&format!("test-{n}"), &rt, "echo 'all is well'");
+        let [out, error] = texts(&output);
+        assert!(output.status.success() && is_checked, "{out}{error}");
+        assert!(out.ends_with("all is well\n9 passed, 0 failed\n"), "{out}");
+        assert_eq!(error, "");
+    }
+}
+
+/// And the count is not its last line.
+fn hold_failed_test(name: &str, rt: &str, check: &str, is_checked: bool) {
+    let (output, found) = tested(name, rt, check);
+    let [out, _] = texts(&output);
+    assert_eq!(output.status.code(), Some(1), "{out}");
+    assert_eq!(found, is_checked, "{out}");
+    assert!(!out.ends_with(" passed, 0 failed\n"), "{out}");
+}
+
+#[test]
+fn the_whole_test_fails_where_rt_does() {
+    let rt = "echo '8 passed, 1 failed'; exit 1";
+    hold_failed_test("test-rt", rt, "", false);
+    let rt = "echo 'rt: the disk is full'; echo '0 passed, 1 failed'; exit 2";
+    hold_failed_test("test-rt-2", rt, "", false);
+}
+
+/// `rt` passes it.
+#[test]
+fn the_whole_test_fails_where_an_edit_is_bad() {
+    for bad in [1, 10] {
+        let edits = EDITS.replace("refused", &format!("refused, {bad} bad"));
+        let rt = format!("{edits}\n{COUNT}");
+        hold_failed_test(&format!("test-bad-{bad}"), &rt, "", false);
+    }
+    hold_failed_test("test-no-edits", COUNT, "", false);
+    let rt = format!("{}\n{COUNT}", EDITS.replace("refused", "refused, 0 bad"));
+    assert!(tested("test-none-bad", &rt, "").0.status.success());
+}
+
+#[test]
+fn the_whole_test_fails_where_the_checks_of_the_host_do() {
+    let rt = format!("{EDITS}\n{COUNT}");
+    hold_failed_test("test-host", &rt, "echo 'host/check: FAILED'; exit 1", true);
 }

@@ -1,5 +1,5 @@
 -- Readings of the stored values (rules R-1 to R-4).
-use Rattle.std.specs.Prelude.{List, ℕ, ◌+◌, eqb, ℤ, pos, get_or}
+use Rattle.std.specs.Prelude.{List, ℕ, eqb, ℤ, pos, get_or}
 use Rattle.answers.specs.Answers as answers
 use Rattle.bits.specs.Bits.{choose, is_beyond}
 use Rattle.fan.specs.Count.{value_of}

@@ -16,8 +16,8 @@ fn main() {
     if !archive.is_file() {
         eprintln!(
             "w83782d: there is no {}.\n\
-             Make it in crates/w83782d_c with `rt lib`, or name the folder that has it in \
-             {FOLDER}.",
+             Make it in crates/w83782d_c with `rt lib --cpu x86-64`, or name the folder that \
+             has it in {FOLDER}.",
             archive.display()
         );
         exit(1);

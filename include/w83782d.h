@@ -20,14 +20,14 @@
  * and the others as the comment has them: 1 before 2, 5 before 3 before 4, 7 before 6.
  * docs/EMBEDDING.md says how firmware uses the calls.
  *
- * To link: libw83782d_c.a, which `rt lib` in crates/w83782d_c writes to its folder
- * out/, and nothing else. It calls no function outside itself, not even of the C
- * library, keeps no data of its own and allocates nothing:
+ * To link: libw83782d_c.a, which `rt lib --cpu x86-64` in crates/w83782d_c writes to
+ * its folder out/, and nothing else. It calls no function outside itself, not even of
+ * the C library, keeps no data of its own and allocates nothing:
  *
  *     gcc -Iinclude firmware.c crates/w83782d_c/out/libw83782d_c.a
  *
- * It is position-independent code for x86-64 (System V calling convention)
- * without unwind tables.
+ * It is position-independent code for every x86-64 (System V calling convention)
+ * without unwind tables; `rt lib` alone makes it for x86-64-v2.
  */
 #ifndef W83782D_H
 #define W83782D_H

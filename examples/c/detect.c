@@ -2,7 +2,7 @@
  * Detects a W83782D as a driver on the bus would: both vendor bytes, chip,
  * device, bus address. Then three calls that are refused.
  *
- *     (cd crates/w83782d_c && rt lib)
+ *     (cd crates/w83782d_c && rt lib --cpu x86-64)
  *     gcc -std=c11 -Iinclude examples/c/detect.c crates/w83782d_c/out/libw83782d_c.a -o detect
  *
  * The archive needs no other library; stdio is for this program's own lines.

@@ -2,7 +2,7 @@
  * Sets the fan alarms at start-up, as firmware would, and takes two samples. A fan
  * rings at its planned speed and at every slower one.
  *
- *     (cd crates/w83782d_c && rt lib)
+ *     (cd crates/w83782d_c && rt lib --cpu x86-64)
  *     gcc -std=c11 -Iinclude examples/c/fan_alarms.c crates/w83782d_c/out/libw83782d_c.a -o fan_alarms
  *
  * The archive needs no other library; stdio is for this program's own lines.

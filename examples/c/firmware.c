@@ -3,7 +3,7 @@
  * kept image, fan alarms, bus accesses, a sample a second, SMI and OVT, a log.
  * host/examples/firmware.rs is the same in Rust and prints the same lines.
  *
- *     (cd crates/w83782d_c && rt lib)
+ *     (cd crates/w83782d_c && rt lib --cpu x86-64)
  *     gcc -std=c11 -Iinclude examples/c/firmware.c crates/w83782d_c/out/libw83782d_c.a -o firmware
  *
  * What the board would do comes first, as stand-ins that print. The archive needs

@@ -12,7 +12,7 @@ fn main() {
     if !archive.is_file() {
         eprintln!(
             "bench: there is no {}.\n\
-             Make it in crates/w83782d_report_c with `rt lib`.",
+             Make it in crates/w83782d_report_c with `rt lib --cpu x86-64`.",
             archive.display()
         );
         exit(1);

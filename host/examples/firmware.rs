@@ -2,7 +2,7 @@
 //! a kept image, fan alarms, bus accesses, a sample a second, SMI and OVT, a log.
 //! `examples/c/firmware.c` is the same in C and prints the same lines.
 //!
-//!     (cd crates/w83782d_c && rt lib)
+//!     (cd crates/w83782d_c && rt lib --cpu x86-64)
 //!     cd host && cargo run --example firmware
 //!
 //! What the board would do is at the end, as stand-ins that print.

@@ -6,9 +6,9 @@
 //! `Err` with a [`Refusal`], and changes nothing. [`plan`], [`millivolts`] and
 //! [`pwm_parts`] need no monitor.
 //!
-//! The proved code is the archive `libw83782d_c.a`, which `rt lib` in
-//! `crates/w83782d_c` makes for x86-64. It needs no other library; this crate needs
-//! only `core`.
+//! The proved code is the archive `libw83782d_c.a`, which `rt lib --cpu x86-64` in
+//! `crates/w83782d_c` makes. It needs no other library; this crate needs only
+//! `core`.
 
 #![no_std]
 

@@ -1,6 +1,6 @@
 -- What is claimed of bus accesses, reset and the chassis event, from every state, refused or not.
 -- The definitions are those that the contracts cite (Map.antt, Access.antt, Registers.antt, Effects.antt, Bus.antt).
-use Rattle.std.specs.Prelude.{◌≡◌, Bool, true, false, ◌&&◌, ◌||◌, List, [], ◌∷◌, ◌≢◌, ◌⊎◌, ℕ, ◌+◌, ◌-◌, ◌<◌, ◌≤◌, eqb, ltb, length, get_or}
+use Rattle.std.specs.Prelude.{◌≡◌, Bool, true, false, ◌&&◌, ◌||◌, List, [], ◌∷◌, ◌≢◌, ◌⊎◌, ℕ, ◌+◌, ◌<◌, ◌≤◌, eqb, ltb, length, get_or}
 use Rattle.std.specs.Int.Bits.{bit_and}
 use Rattle.bits.specs.Bits.{bit, is_on, choose}
 use Rattle.bits.specs.Map.{any, bank, Span, span, among}

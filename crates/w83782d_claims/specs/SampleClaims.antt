@@ -1,7 +1,7 @@
 -- What is claimed of a sample, from every state of the monitor and for every sample, refused or not
 -- (rules S-1 to S-10, T, I, O). The definitions are those that the contracts cite (w83782d_conditions:
 -- Conditions.antt; w83782d_store: Stored.antt; w83782d_sample: Sample.antt; w83782d_readings: Outputs.antt).
-use Rattle.std.specs.Prelude.{◌≡◌, Bool, true, false, not, ◌&&◌, ◌||◌, List, [], ◌∷◌, ◌≢◌, ◌↔◌, ℕ, ◌+◌, ◌<◌, ◌≤◌, max, eqb, ltb, length}
+use Rattle.std.specs.Prelude.{◌≡◌, Bool, true, false, not, ◌&&◌, ◌||◌, List, [], ◌∷◌, ◌≢◌, ◌↔◌, ℕ, ◌<◌, ◌≤◌, max, eqb, ltb, length}
 use Rattle.std.specs.Bool.{xor}
 use Rattle.std.specs.Int.Bits.{bit_and}
 use Rattle.bits.specs.Bits.{bit, is_on, choose, flag_of}

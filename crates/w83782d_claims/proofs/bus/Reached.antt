@@ -17,7 +17,7 @@ use Rattle.bits.specs.Bits.{bit, choose, merge_of, changes}
 use Rattle.bits.specs.Map.{among}
 use Rattle.bits.proofs.BitLaws.{choose_ind}
 use Rattle.bits.proofs.Every.{every_at, every_at2, beq_same}
-use Rattle.w83782d_map.specs.Map.{cells, present_at, writable_at, rows}
+use Rattle.w83782d_map.specs.Map.{cells, present_at, writable_at}
 use Rattle.w83782d_map.specs.Cells.{bank_select}
 use Rattle.w83782d_map.specs.Access.{write_answer}
 use Rattle.w83782d_claims.proofs.bus.Named.{register_4_e}

@@ -1,6 +1,6 @@
 -- Quiet calls leave the fans' real-time bits: each call by its kind, and a list by induction.
 -- Assumes nothing.
-use mathlib.Core.Path.{◌≡◌, refl, ap, ap₂, sym, ◌∙◌}
+use mathlib.Core.Path.{◌≡◌, refl, ap, ◌∙◌}
 use mathlib.Core.Bool.{Bool, true, false, not, ◌&&◌}
 use mathlib.Core.List.{List, [], ◌∷◌, ◌++◌}
 use mathlib.Core.Logic.{◌≢◌}
@@ -9,10 +9,9 @@ use native.Mathlib.Omega.{arith}
 use borrow.Author.Tests.{eq-eqb, eqb-true, eqb-false, not-true, not-false}
 use lib.Dec.{eqb}
 use lib.ListN.{get_or}
-use Rattle.bits.specs.Bits.{bit, is_on, choose}
+use Rattle.bits.specs.Bits.{bit, choose}
 use Rattle.bits.proofs.ChangeLaws.{and_left, and_right}
 use Rattle.fan_settings.proofs.Settings.{put}
-use Rattle.w83782d_layout.specs.declared.samples.Sample.{Sample}
 use Rattle.w83782d_map.specs.Map.{rows, present_at, writable_at}
 use Rattle.w83782d_map.specs.Cells.{interrupt_status1, interrupt_status2, real_time_status1, real_time_status2}
 use Rattle.w83782d_map.specs.Access.{write_answer}

@@ -21,7 +21,7 @@ use Rattle.w83782d_map.specs.Cells.{bank_select, configuration, interrupt_status
 use Rattle.w83782d_map.proofs.Cells.{present_cell}
 use Rattle.w83782d_registers.specs.Registers.{cell_of, reach_of, shown_of}
 use Rattle.w83782d_latches.specs.Effects.{read_latches}
-use Rattle.w83782d_bus.specs.Bus.{State, state, read_registers, Read, read, read_of}
+use Rattle.w83782d_bus.specs.Bus.{State, state, read_registers, read, read_of}
 use Rattle.w83782d_claims.specs.BusClaims.{Whole, shown_in, has_rule}
 use Rattle.w83782d_claims.proofs.bus.Reached.{read_answer, refused}
 use Rattle.w83782d_claims.proofs.bus.Frames.{shown_same, read_state_law, shown}

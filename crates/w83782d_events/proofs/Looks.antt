@@ -1,4 +1,4 @@
--- A look is answered by what a read is made of, and leaves the state: so nothing in a list depends on it.
+-- A look is answered as a read is, and leaves the state: so nothing in a list depends on it.
 -- Assumes nothing.
 use mathlib.Core.Path.{◌≡◌, refl, ap}
 use mathlib.Core.Bool.{Bool, true, false}
@@ -6,7 +6,9 @@ use mathlib.Core.List.{List, [], ◌∷◌, ◌++◌}
 use mathlib.Core.Logic.{◌≢◌}
 use Prim.Native.Nat.{ℕ}
 use Rattle.bits.specs.Bits.{choose}
-use Rattle.w83782d_bus.specs.Bus.{State, read_of}
+use Rattle.w83782d_map.specs.Map.{present_at}
+use Rattle.w83782d_registers.specs.Registers.{reach_of}
+use Rattle.w83782d_bus.specs.Bus.{State, looked, looked_of, look_of, read as read_out, read_of}
 use Rattle.w83782d_claims.specs.Alarm.{Call, write, read, look, sample, chassis, set_plan, answer_to}
 use Rattle.w83782d_claims.specs.Alarm.{state_after}
 use Rattle.w83782d_events.specs.Looks.{is_look, without_looks, LookClaims}
@@ -42,12 +44,22 @@ after_all_law s (sample x ∷ cs) = after_all_law (answer_to s (sample x)).state
 after_all_law s (chassis ∷ cs) = after_all_law (answer_to s chassis).state cs
 after_all_law s (set_plan f w ∷ cs) = after_all_law (answer_to s (set_plan f w)).state cs
 
+-- a look and a read, where there is a register and where there is none
+same : (s : State) (i : ℕ) → ((look_of s i).answer ≡ (read_of s i).answer) × ((look_of s i).byte ≡ (read_of s i).byte)
+unfolding read_of looked_of
+same s i = go (present_at (reach_of s.registers i)) _ _
+  where
+    go : (p : Bool) (t : State) (b : ℕ)
+        → ((choose p (looked 0 b) (looked 1 0)).answer ≡ (choose p (read_out t 0 b) (read_out s 1 0)).answer)
+        × ((choose p (looked 0 b) (looked 1 0)).byte ≡ (choose p (read_out t 0 b) (read_out s 1 0)).byte)
+    go true t b = (refl, refl)
+    go false t b = (refl, refl)
+
 pub look_claims : LookClaims
-unfolding read_of
 look_claims =
     record {
-      answer = λ s i. refl;
-      byte = λ s i. refl;
+      answer = λ s i. (same s i).0;
+      byte = λ s i. (same s i).1;
       leaves = λ s i. refl;
       dropped = dropped;
       kept = kept;

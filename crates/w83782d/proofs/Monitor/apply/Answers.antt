@@ -15,10 +15,10 @@ returns c =
     let e = c.args.event in
     let fits : (k : ℕ) → Fits w8 (get_or m.registers k 0) = λ k. search rules in
     let byte : SFits w8 e.sample.sensor1 =
-    search (rules, c.well-formed.1) in
+    search (rules, c.well_formed.1) in
     let done = c.take_in-done.ensures in
     let equation = shown_as m.registers m.latches (search rules) _ _ _ _ done c.of.ensures in
     let status =
     status_claims (state_of m) e.sample (record { count = search rules; bytes = λ k. (fits k).fits }) byte
     e.kind in
-    (equation, (event_calls, status))
+    record { equation = equation; calls = event_calls; status = status }

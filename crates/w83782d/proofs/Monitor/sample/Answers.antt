@@ -18,4 +18,4 @@ returns c =
     let done = c.sample_in-done.ensures.outcome in
     let claims = sample_claims (state_of m) x (record { count = search rules; bytes = λ k. (fits k).fits }) byte in
     let equation = answered_as m.registers m.latches (search rules) _ _ _ _ done c.of.ensures in
-    (equation, (claims, sample_rings (state_of m) x))
+    record { equation = equation; claims = claims; rings = sample_rings (state_of m) x }

@@ -12,4 +12,10 @@ returns c =
     let m = a.self in
     let claims = plan_claims (state_of m) a.fan a.rpm (search rules) in
     let own = sets_alarm (state_of m) a.fan a.rpm (search rules) in
-    (search (rules, answered_as), (claims, (own, (alarm_rings, monitor_calls))))
+    record {
+      equation = search (rules, answered_as);
+      claims = claims;
+      own = own;
+      alarm = alarm_rings;
+      calls = monitor_calls;
+    }

@@ -10,7 +10,7 @@ use Rattle.w83782d_raw_values.proofs.raw_values.Goals as goal
 -- what a sample is as it comes in
 parts : (c : goal.After-half_value-2) → (length c.args.x.codes ≡ 7) × (length c.args.x.remote ≡ 2)
     × (length c.args.x.counts ≡ 3) × (mag c.args.x.sensor1 < 128)
-parts c = (search rules, search rules, simp map_length at c.well-formed.0.1.1.1.1.1.0.1.0.1, search rules)
+parts c = (search rules, search rules, c.well_formed.0.1.1.1.1.1.0.1.0.1, search rules)
 
 pub returns : goal.returns
 returns c =

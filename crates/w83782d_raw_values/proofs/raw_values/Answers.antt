@@ -2,7 +2,6 @@ use Prim.Native.Nat.{◌<◌}
 use mathlib.Core.Path.{◌≡◌}
 use lib.ListN.{length}
 use lib.Signed.{mag}
-use Rattle.w83782d_layout.proofs.samples.Items.{map_length}
 use Rattle.w83782d_raw_values.proofs.Raw.{raw_are}
 use borrow.Author.Rules.{rules}
 use Rattle.w83782d_raw_values.proofs.raw_values.Goals as goal

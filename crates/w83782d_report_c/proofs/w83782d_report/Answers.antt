@@ -10,27 +10,11 @@ use Rattle.w83782d_day.specs.Day.{Day, new_day, feed, DayCuts}
 use Rattle.w83782d_day.specs.Report.{summary_of, report_of, Reports}
 use Rattle.w83782d_report_text.specs.ReportText.{report_text}
 use borrow.Author.Rules.{rules}
-use Rattle.w83782d_report_c.proofs.w83782d_report.Statement.{statement}
-use Rattle.w83782d_report_c.proofs.w83782d_report.Tie as tie
+use Rattle.w83782d_report_c.proofs.w83782d_report.Goals as goal
 
 of-log : (o p log : List ℕ) (n : ℕ) (v w : Fed Day) → v ≡ fed [] (new_day power_on) → w ≡ feed v log
     → DayCuts × Reports → Put o 0 (report_text (summary_of w)) p n → Put o 0 (report_text (report_of power_on log)) p n
 of-log o p log n v w start fed-on claims put = rw (fed-on, start, claims.1.report power_on log) at put
 
-start-requires : tie.Need-start-requires
-start-requires c κs = search rules
-
-feed-requires : tie.Need-feed-requires
-feed-requires c κs = search rules
-
-put-report-requires : tie.Need-put-report-requires
-put-report-requires c κs = search rules
-
-same_length : tie.Need-same-length
-same_length c = search rules
-
-returns : tie.Need-returns
-returns c = (search (rules, of-log), search rules)
-
-pub w83782d-report-spec : {M : Type 1} → statement M
-w83782d-report-spec = tie.close (tie.spec start-requires feed-requires put-report-requires same_length returns)
+pub returns : goal.returns
+returns c = record { text = search (rules, of-log); short = search rules }

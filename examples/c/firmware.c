@@ -102,9 +102,9 @@ static const struct {
 /* Speeds in rpm at which fans 1 to 3 ring, as at every slower one. */
 static const uint32_t alarms[FANS] = {4400, 2641, 1000};
 
-/* Voltage channel of +12, whose reading needs no resistors, the register of its code,
- * and interrupt status 1. */
-enum { PLUS_12 = 4, PLUS_12_CODE = 0x24, STATUS_1 = 0x41 };
+/* Voltage channel of +12, whose reading needs no resistors, and the register of its
+ * code, which a read leaves as it is. */
+enum { PLUS_12 = 4, PLUS_12_CODE = 0x24 };
 
 /* The monitor: nothing but these bytes, which are never looked into. */
 static uint8_t image[W83782D_IMAGE_SIZE];
@@ -265,19 +265,16 @@ static bool sample(void)
     return answer == W83782D_ACCEPTED || answer == W83782D_NOT_MONITORING;
 }
 
-/* Readings for people, from what the last sample stored. The status is looked at and
- * not read, so that showing an alarm doesn't clear it: the bus master still gets it. */
+/* Readings for people, from what the last sample stored. */
 static bool show(int second)
 {
-    uint16_t plus_12 = w83782d_look(image, sizeof image, PLUS_12_CODE);
-    uint16_t status_1 = w83782d_look(image, sizeof image, STATUS_1);
+    uint16_t plus_12 = w83782d_read(image, sizeof image, PLUS_12_CODE);
     uint32_t sensor_2 = w83782d_temperature(image, sizeof image, 2);
     uint32_t fan_1 = w83782d_speed(image, sizeof image, 1);
     uint32_t outputs = w83782d_outputs(image, sizeof image);
 
     /* What a refusal returns beside its answer is 0, and 0 is a reading too. */
     if (W83782D_READ_ANSWER(plus_12) != W83782D_ACCEPTED ||
-        W83782D_READ_ANSWER(status_1) != W83782D_ACCEPTED ||
         w83782d_millivolts_answer(PLUS_12, 0, 0) != W83782D_ACCEPTED ||
         W83782D_TEMPERATURE_ANSWER(sensor_2) != W83782D_ACCEPTED ||
         W83782D_SPEED_ANSWER(fan_1) != W83782D_ACCEPTED ||
@@ -296,8 +293,7 @@ static bool show(int second)
     default:
         printf("too slow");
     }
-    printf(", 41h %02Xh, alarms %d\n", W83782D_READ_BYTE(status_1),
-           W83782D_OUTPUTS_ALARMS(outputs));
+    printf(", alarms %d\n", W83782D_OUTPUTS_ALARMS(outputs));
     return true;
 }
 

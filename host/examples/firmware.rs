@@ -22,11 +22,10 @@ const SETTINGS: [(u8, u8); 17] = [
 /// Fans, and the speeds in rpm at which they ring, as at every slower one.
 const ALARMS: [(u8, u32); 3] = [(1, 4_400), (2, 2_641), (3, 1_000)];
 
-/// Voltage channel of +12, whose reading needs no resistors, the register of its
-/// code, and interrupt status 1.
+/// Voltage channel of +12, whose reading needs no resistors, and the register of
+/// its code, which a read leaves as it is.
 const PLUS_12: u8 = 4;
 const PLUS_12_CODE: u8 = 0x24;
-const STATUS_1: u8 = 0x41;
 
 struct Firmware {
     monitor: Monitor,
@@ -126,12 +125,9 @@ impl Firmware {
         board.drive_ovt(outputs.ovt2 || outputs.ovt3);
     }
 
-    /// Readings for people, from what the last sample stored. The status is looked at
-    /// and not read, so that showing an alarm doesn't clear it: the bus master still
-    /// gets it.
-    fn show(&self, second: usize) -> Result<(), Refusal> {
-        let code = self.monitor.look(PLUS_12_CODE)?;
-        let status_1 = self.monitor.look(STATUS_1)?;
+    /// Readings for people, from what the last sample stored.
+    fn show(&mut self, second: usize) -> Result<(), Refusal> {
+        let code = self.monitor.read(PLUS_12_CODE)?;
         let millivolts = millivolts(PLUS_12, code, 0, 0)?;
         let half_degrees = self.monitor.temperature(2)?;
         print!("{second} s: +12 at {millivolts} mV, ");
@@ -141,8 +137,7 @@ impl Firmware {
             Speed::TooFast => print!("too fast"),
             Speed::TooSlow => print!("too slow"),
         }
-        let alarms = self.monitor.outputs().standing_alarms;
-        println!(", 41h {status_1:02X}h, alarms {alarms}");
+        println!(", alarms {}", self.monitor.outputs().standing_alarms);
         Ok(())
     }
 }

@@ -1,8 +1,7 @@
 // The answer numbers (rules A-0 to A-9, A-12): every call is answered by one of them.
-
-// A-0: accepted.
 #![tactic(auto)]
 
+// A-0: accepted.
 pub const ACCEPTED: u8 = 0;
 
 // A-1: no register at the index, or its bank is absent.

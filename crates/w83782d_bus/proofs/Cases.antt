@@ -18,7 +18,7 @@ use Rattle.w83782d_registers.proofs.Cases.{restored_in_law}
 use Rattle.w83782d_latches.specs.declared.Latches.{Latches}
 use Rattle.w83782d_latches.specs.Effects.{power_on_latches, written_latches, read_latches}
 use Rattle.w83782d_bus.specs.Bus.{State, state, power_on, written_registers, written_in, write_of, written}
-use Rattle.w83782d_bus.specs.Bus.{looked, looked_of, looked_in, leaving, read_registers, read_in, read_state}
+use Rattle.w83782d_bus.specs.Bus.{looked, looked_of, looked_in, leaving, read_registers, read_in}
 use Rattle.w83782d_bus.specs.Bus.{read_of, read}
 use Rattle.w83782d_bus.specs.Bus.{sized, sized_read}
 
@@ -121,18 +121,3 @@ module _ (rs : List ℕ) (l : Latches) (i : ℕ) where
         → read (state ts m) 0 b ≡ sized_read rs l (read_of (state rs l) i)
     unfolding read_of
     read_accepted ts m b n g k j = simp (eq-eqb (length rs) cells h, ← e, ← f, not-false p n, ← g, ← k, j)
-
--- a read by whether there is a register
-pub read_cases : (s : State) (i : ℕ)
-    → read_of s i
-    ≡ choose (present_at (reach_of s.registers i))
-    (read (read_state s (reach_of s.registers i)) 0
-    (shown_of s.registers s.latches.chassis (reach_of s.registers i)))
-    (read s 1 0)
-unfolding read_of
-read_cases s i = go (present_at (reach_of s.registers i)) _ _
-  where
-    go : (p : Bool) (t : State) (b : ℕ)
-        → choose p (read t 0 b) (read s 1 0) ≡ choose p (read (choose p t s) 0 b) (read s 1 0)
-    go true t b = refl
-    go false t b = refl

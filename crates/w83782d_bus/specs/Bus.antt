@@ -86,11 +86,6 @@ read_at s c =
     (shown_of s.registers s.latches.chassis c))
     (read s answers.absent 0)
 
--- the effect, where there is a register
-abbrev pub read_state : State → ℕ → State
-read_state s c =
-    choose (present_at c) (state (read_registers s.registers c) (read_latches s.registers s.latches c)) s
-
 unfoldable pub read_of : State → ℕ → Read
 read_of s i = read_at s (reach_of s.registers i)
 

@@ -28,7 +28,6 @@ use Rattle.w83782d_claims.proofs.bus.Named.{register_40, register_46}
 use Rattle.w83782d_registers.specs.Registers.{reach_of, is_command, is_interrupt, reset_registers, with_chassis, shown_of}
 use Rattle.w83782d_latches.specs.Effects.{remote_of, written_latches, read_latches, with_released, releases, opened_latches}
 use Rattle.w83782d_bus.specs.Bus.{State, state, written_registers, write_of, read_registers, read_of, Read, read}
-use Rattle.w83782d_bus.specs.Bus.{looked_of}
 use Rattle.w83782d_registers.proofs.Cases.{both}
 use Rattle.w83782d_map.proofs.Cells.{answered_cell, present_cell}
 use Rattle.w83782d_claims.proofs.bus.Reached.{write_answer_law, read_answer}
@@ -270,7 +269,7 @@ pub read_state_law : (s : State) (i : ℕ) → present_at (reach_of s.registers 
     → read_of s i ≡ read
     (state (read_registers s.registers (reach_of s.registers i))
     (read_latches s.registers s.latches (reach_of s.registers i))) 0 (shown_in s (reach_of s.registers i))
-unfolding read_of looked_of
+unfolding read_of
 read_state_law s i e = simp e
 
 answered_present : (s : State) (i : ℕ) → (read_of s i).answer ≡ 0 → present_at (reach_of s.registers i) ≡ true

@@ -22,8 +22,7 @@ use Rattle.w83782d_map.specs.Cells.{bank_select}
 use Rattle.w83782d_map.specs.Access.{write_answer}
 use Rattle.w83782d_claims.proofs.bus.Named.{register_4_e}
 use Rattle.w83782d_registers.specs.Registers.{cell_of, bank_of, reach_of}
-use Rattle.w83782d_bus.specs.Bus.{State, written_registers, write_of, Written, read_of, looked_of, Read}
-use Rattle.w83782d_bus.proofs.Cases.{read_cases}
+use Rattle.w83782d_bus.specs.Bus.{State, written_registers, write_of, Written, read_of, Read}
 use Rattle.w83782d_map.proofs.Cells.{present, present_rows, present_out}
 use Rattle.w83782d_registers.proofs.Cases.{cell_alias, cell_any}
 use Rattle.w83782d_claims.specs.BusClaims.{answers1, AccessAnswers, RefusedAccess, Alias}
@@ -38,10 +37,11 @@ write_answer_law s i v =
     (λ e. sym (eqb-true (write_answer (reach_of s.registers i)) 0 e)) (λ _. refl)
 
 pub read_answer : (s : State) (i : ℕ) → (read_of s i).answer ≡ choose (present_at (reach_of s.registers i)) 0 1
+unfolding read_of
 read_answer s i =
-    rw (read_cases s i) (choose_ind (λ (r : Read). r.answer ≡ choose (present_at (reach_of s.registers i)) 0 1)
+    choose_ind (λ (r : Read). r.answer ≡ choose (present_at (reach_of s.registers i)) 0 1)
     (present_at (reach_of s.registers i)) _ _
-    (λ e. simp e) (λ e. simp e))
+    (λ e. simp e) (λ e. simp e)
 
 -- the cell that a bank and an index reach is no register exactly where answer 1 is listed
 listed : ℕ → ℕ → Bool
@@ -116,7 +116,7 @@ answers s i v hi =
 
 -- ---- a refused access
 pub refused : (s : State) (i v : ℕ) → RefusedAccess s i v
-unfolding write_of
+unfolding write_of read_of
 refused s i v =
     let c = reach_of s.registers i in
     record {
@@ -124,11 +124,11 @@ refused s i v =
           choose_ind (λ (w : Written). w.answer ≢ 0 → w.state ≡ s) (eqb (write_answer c) 0) _ _
           (λ _ n. absurd (n refl)) (λ _ n. refl);
       read =
-          rw (read_cases s i) (choose_ind (λ (r : Read). r.answer ≢ 0 → r.state ≡ s) (present_at c) _ _
-          (λ _ n. absurd (n refl)) (λ _ n. refl));
+          choose_ind (λ (r : Read). r.answer ≢ 0 → r.state ≡ s) (present_at c) _ _ (λ _ n. absurd (n refl))
+          (λ _ n. refl);
       byte =
-          rw (read_cases s i) (choose_ind (λ (r : Read). r.answer ≢ 0 → r.byte ≡ 0) (present_at c) _ _
-          (λ _ n. absurd (n refl)) (λ _ n. refl));
+          choose_ind (λ (r : Read). r.answer ≢ 0 → r.byte ≡ 0) (present_at c) _ _ (λ _ n. absurd (n refl))
+          (λ _ n. refl);
     }
 
 -- ---- the cell of an index
@@ -139,7 +139,7 @@ cell_same b i h k =
     ∙ cell_any b i h (omega arith) (omega arith) (omega arith)
 
 pub alias : (s : State) (i v : ℕ) → Alias s i v
-unfolding write_of read_of looked_of
+unfolding write_of read_of
 alias s i v h k = (rw (cell_same (bank_of s.registers) i h k), rw (cell_same (bank_of s.registers) i h k))
 
 cell_free : (b b' i : ℕ) → (i < 0x50) ⊎ (0x5F < i) → cell_of b i ≡ cell_of b' i

@@ -516,9 +516,9 @@ fn progress_of_a_report_is_shown_on_a_terminal() {
     hold_progress(REPORT, steps);
 }
 
-/// `rt` looks at all crates for some seconds before it begins with one.
+/// `rt` looks at all crates for some seconds before it begins with one, which it names.
 #[test]
-fn progress_is_shown_where_no_crate_is_named() {
+fn progress_is_shown_where_something_has_changed() {
     let rt = format!("sleep 5\n{UNCHANGED}");
     let scratch = Scratch::new("changed", &rt, REPLAY, &prints(REPLAY.end));
     scratch.edit();

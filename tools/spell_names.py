@@ -18,6 +18,7 @@ import sys
 
 NAME = r'[^\s(){}.;,@"«»]+'
 DECLARED = re.compile(rf"^ *(?:(?:abbrev|unfoldable|pub) )*({NAME}(?: {NAME})*?)(?: \{{[^{{}}\n]*\}})* :(?=\s|$)", re.M)
+FUNCTION_S = re.compile(r"^use Rattle\S+\.(Statement\.\{statement\}|Tie\b|Tie\.|Goals as goal|Given as goal)", re.M)
 STRING = re.compile(r'b?"(?:[^"\\\n]|\\.)*"')
 WORD = re.compile(NAME)
 # a word of prose ends at more signs
@@ -37,12 +38,13 @@ def antt_files():
 def declared():
     names = set()
     for path in antt_files():
-        # what a function's own proof declares is named by the check
-        if "/proofs/" in path and os.path.basename(path) in ("Proof.antt", "Answers.antt", "Invariants.antt"):
-            continue
         with open(path, encoding="utf-8") as f:
-            for m in DECLARED.finditer(f.read()):
-                names.update(n for n in m[1].split() if re.fullmatch(r"[a-z][\w'-]*", n))
+            text = f.read()
+        # what a function's own proof declares is named by the check
+        if FUNCTION_S.search(text):
+            continue
+        for m in DECLARED.finditer(text):
+            names.update(n for n in m[1].split() if re.fullmatch(r"[a-z][\w'-]*", n))
     return names
 
 

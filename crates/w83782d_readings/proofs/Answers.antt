@@ -42,9 +42,9 @@ never count d = go (eqb count 0) (eqb count 255) (nearest fan.per_tenth (count *
     go false true n = refl
     go false false n = refl
 
-speed-at : (rs : List ℕ) (f : ℕ) → fan.speed_answer (speed_at rs f) ≡ answer_to 3 f
+speed_at_law : (rs : List ℕ) (f : ℕ) → fan.speed_answer (speed_at rs f) ≡ answer_to 3 f
 unfolding speed_at
-speed-at rs f = go (is_beyond 3 f)
+speed_at_law rs f = go (is_beyond 3 f)
   where
     go : (t : Bool)
         → fan.speed_answer (choose t speed.Refused (fan.count_speed (get_or rs (fan_count f) 0) (value_of (divisor_of rs f))))
@@ -53,13 +53,13 @@ speed-at rs f = go (is_beyond 3 f)
     go false = never (get_or rs (fan_count f) 0) (value_of (divisor_of rs f))
 
 -- ---- temperatures and duties
-temperature-at : (rs : List ℕ) (n : ℕ) → temperature_answer (temperature_at rs n) ≡ answer_to 3 n
+temperature_at_law : (rs : List ℕ) (n : ℕ) → temperature_answer (temperature_at rs n) ≡ answer_to 3 n
 unfolding temperature_at
-temperature-at rs zero = refl
-temperature-at rs (suc zero) = refl
-temperature-at rs (suc (suc zero)) = refl
-temperature-at rs (suc (suc (suc zero))) = refl
-temperature-at rs (suc (suc (suc (suc k)))) =
+temperature_at_law rs zero = refl
+temperature_at_law rs (suc zero) = refl
+temperature_at_law rs (suc (suc zero)) = refl
+temperature_at_law rs (suc (suc (suc zero))) = refl
+temperature_at_law rs (suc (suc (suc (suc k)))) =
     let n = suc (suc (suc (suc k))) in
     simp (
       le-ltb n 1 (omega arith),
@@ -69,14 +69,14 @@ temperature-at rs (suc (suc (suc (suc k)))) =
       ne_eqb n 3 (λ e. omega arith),
     )
 
-duty-at : (rs : List ℕ) (n : ℕ) → duty_answer (duty_at rs n) ≡ answer_to 4 n
+duty_at_law : (rs : List ℕ) (n : ℕ) → duty_answer (duty_at rs n) ≡ answer_to 4 n
 unfolding duty_at
-duty-at rs zero = refl
-duty-at rs (suc zero) = refl
-duty-at rs (suc (suc zero)) = refl
-duty-at rs (suc (suc (suc zero))) = refl
-duty-at rs (suc (suc (suc (suc zero)))) = refl
-duty-at rs (suc (suc (suc (suc (suc k))))) =
+duty_at_law rs zero = refl
+duty_at_law rs (suc zero) = refl
+duty_at_law rs (suc (suc zero)) = refl
+duty_at_law rs (suc (suc (suc zero))) = refl
+duty_at_law rs (suc (suc (suc (suc zero)))) = refl
+duty_at_law rs (suc (suc (suc (suc (suc k))))) =
     let n = suc (suc (suc (suc (suc k)))) in
     simp (
       le-ltb n 1 (omega arith),
@@ -88,65 +88,65 @@ duty-at rs (suc (suc (suc (suc (suc k))))) =
     )
 
 -- ---- any slice: 8 before these
-sized-answer : {A : Type 0} (number : A → ℕ) (t : Bool) (x y : A) (a : ℕ) → number x ≡ a → number y ≡ 8
+sized_answer_law : {A : Type 0} (number : A → ℕ) (t : Bool) (x y : A) (a : ℕ) → number x ≡ a → number y ≡ 8
     → number (choose t x y) ≡ choose t a 8
-sized-answer number true x y a e f = e
-sized-answer number false x y a e f = f
+sized_answer_law number true x y a e f = e
+sized_answer_law number false x y a e f = f
 
 module _ (rs : List ℕ) (n : ℕ) where
-  voltage-answer : (r5 r6 : ℕ) → reading_answer (voltage_of rs n r5 r6) ≡ sized_answer rs (answer_for n r5 r6)
+  voltage_answer : (r5 r6 : ℕ) → reading_answer (voltage_of rs n r5 r6) ≡ sized_answer rs (answer_for n r5 r6)
   unfolding voltage_of
-  voltage-answer r5 r6 =
-      sized-answer reading_answer (fits rs) (voltage_at rs n r5 r6) reading.WrongLength (answer_for n r5 r6)
+  voltage_answer r5 r6 =
+      sized_answer_law reading_answer (fits rs) (voltage_at rs n r5 r6) reading.WrongLength (answer_for n r5 r6)
       (answers_hold.exactly n (get_or rs (voltage n) 0) r5 r6) refl
 
-  speed-answer : fan.speed_answer (speed_of rs n) ≡ sized_answer rs (answer_to 3 n)
+  speed_answer_law : fan.speed_answer (speed_of rs n) ≡ sized_answer rs (answer_to 3 n)
   unfolding speed_of
-  speed-answer =
-      sized-answer fan.speed_answer (fits rs) (speed_at rs n) speed.WrongLength (answer_to 3 n) (speed-at rs n) refl
+  speed_answer_law =
+      sized_answer_law fan.speed_answer (fits rs) (speed_at rs n) speed.WrongLength (answer_to 3 n) (speed_at_law rs n) refl
 
-  temperature-answer : temperature_answer (temperature_of rs n) ≡ sized_answer rs (answer_to 3 n)
+  temperature_answer_law : temperature_answer (temperature_of rs n) ≡ sized_answer rs (answer_to 3 n)
   unfolding temperature_of
-  temperature-answer =
-      sized-answer temperature_answer (fits rs) (temperature_at rs n) temperature.WrongLength (answer_to 3 n)
-      (temperature-at rs n) refl
+  temperature_answer_law =
+      sized_answer_law temperature_answer (fits rs) (temperature_at rs n) temperature.WrongLength (answer_to 3 n)
+      (temperature_at_law rs n) refl
 
-  duty-answer : duty_answer (duty_of rs n) ≡ sized_answer rs (answer_to 4 n)
+  duty_answer_law : duty_answer (duty_of rs n) ≡ sized_answer rs (answer_to 4 n)
   unfolding duty_of
-  duty-answer = sized-answer duty_answer (fits rs) (duty_at rs n) duty.WrongLength (answer_to 4 n) (duty-at rs n) refl
+  duty_answer_law = sized_answer_law duty_answer (fits rs) (duty_at rs n) duty.WrongLength (answer_to 4 n) (duty_at_law rs n) refl
 
 -- ---- what is refused reads 0
-refused-voltage : (r : Reading) → reading_answer r ≢ 0 → reading_value r ≡ pos 0
-refused-voltage (reading.Millivolts z) e = absurd (e refl)
-refused-voltage reading.Refused e = refl
-refused-voltage reading.WrongLength e = refl
+refused_voltage : (r : Reading) → reading_answer r ≢ 0 → reading_value r ≡ pos 0
+refused_voltage (reading.Millivolts z) e = absurd (e refl)
+refused_voltage reading.Refused e = refl
+refused_voltage reading.WrongLength e = refl
 
-refused-speed : (s : Speed) → fan.speed_answer s ≢ 0 → fan.speed_value s ≡ 0
-refused-speed (speed.Tenths n) e = absurd (e refl)
-refused-speed speed.TooFast e = refl
-refused-speed speed.TooSlow e = refl
-refused-speed speed.Refused e = refl
-refused-speed speed.WrongLength e = refl
+refused_speed : (s : Speed) → fan.speed_answer s ≢ 0 → fan.speed_value s ≡ 0
+refused_speed (speed.Tenths n) e = absurd (e refl)
+refused_speed speed.TooFast e = refl
+refused_speed speed.TooSlow e = refl
+refused_speed speed.Refused e = refl
+refused_speed speed.WrongLength e = refl
 
-refused-temperature : (t : Temperature) → temperature_answer t ≢ 0 → temperature_value t ≡ pos 0
-refused-temperature (temperature.HalfDegrees z) e = absurd (e refl)
-refused-temperature temperature.Refused e = refl
-refused-temperature temperature.WrongLength e = refl
+refused_temperature : (t : Temperature) → temperature_answer t ≢ 0 → temperature_value t ≡ pos 0
+refused_temperature (temperature.HalfDegrees z) e = absurd (e refl)
+refused_temperature temperature.Refused e = refl
+refused_temperature temperature.WrongLength e = refl
 
-refused-duty : (d : Duty) → duty_answer d ≢ 0 → duty_value d ≡ 0
-refused-duty (duty.Parts n) e = absurd (e refl)
-refused-duty duty.Refused e = refl
-refused-duty duty.WrongLength e = refl
+refused_duty : (d : Duty) → duty_answer d ≢ 0 → duty_value d ≡ 0
+refused_duty (duty.Parts n) e = absurd (e refl)
+refused_duty duty.Refused e = refl
+refused_duty duty.WrongLength e = refl
 
-pub reading-claims : ReadingClaims
-reading-claims =
+pub reading_claims : ReadingClaims
+reading_claims =
     record {
-      voltage = λ rs n r5 r6. voltage-answer rs n r5 r6;
-      no_voltage = λ rs n r5 r6 e. refused-voltage (voltage_of rs n r5 r6) e;
-      speed = speed-answer;
-      no_speed = λ rs f e. refused-speed (speed_of rs f) e;
-      temperature = temperature-answer;
-      no_temperature = λ rs n e. refused-temperature (temperature_of rs n) e;
-      duty = duty-answer;
-      no_duty = λ rs n e. refused-duty (duty_of rs n) e;
+      voltage = λ rs n r5 r6. voltage_answer rs n r5 r6;
+      no_voltage = λ rs n r5 r6 e. refused_voltage (voltage_of rs n r5 r6) e;
+      speed = speed_answer_law;
+      no_speed = λ rs f e. refused_speed (speed_of rs f) e;
+      temperature = temperature_answer_law;
+      no_temperature = λ rs n e. refused_temperature (temperature_of rs n) e;
+      duty = duty_answer_law;
+      no_duty = λ rs n e. refused_duty (duty_of rs n) e;
     }

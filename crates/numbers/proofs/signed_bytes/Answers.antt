@@ -4,8 +4,5 @@ use Rattle.numbers.proofs.Words.{signed_by_bytes}
 use Rattle.std.proofs.Common.{rules}
 use Rattle.numbers.proofs.signed_bytes.Goals as goal
 
--- LEFT cast-x : tie.Need-overflow-cast-x
--- cast-x c = search rules
-
 pub returns : goal.returns
 returns c = search (rules, signed_by_bytes)

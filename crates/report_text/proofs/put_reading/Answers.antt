@@ -10,7 +10,7 @@ returns c =
     let least = c.number_at-least in
     let greatest = c.number_at-greatest in
     let sum = c.number_at-sum in
-    let is-line =
+    let is_line =
     put_figure_at _ _ args.figures.now args.place least.result greatest.result sum.result (search rules)
     (search rules) (search rules) least.ensures greatest.ensures sum.ensures c.put_figure.ensures.line in
-    record { line = is-line; short = search rules }
+    record { line = is_line; short = search rules }

@@ -18,50 +18,50 @@ use Rattle.w83782d_claims.specs.SampleClaims.{is_standby, RefusedSample}
 use Rattle.w83782d_claims.proofs.sample.Stores.{sample_answer_law, refused_state}
 
 -- ---- the three tests in order
-abbrev inOrder : Bool → Bool → Bool → ℕ
-inOrder a b c = choose a 3 (choose b 3 (choose c 4 0))
+abbrev in_order : Bool → Bool → Bool → ℕ
+in_order a b c = choose a 3 (choose b 3 (choose c 4 0))
 
-is-3 : (a b c : Bool) → eqb (inOrder a b c) 3 ≡ (a || b)
-is-3 true b c = refl
-is-3 false true c = refl
-is-3 false false true = refl
-is-3 false false false = refl
+is_3 : (a b c : Bool) → eqb (in_order a b c) 3 ≡ (a || b)
+is_3 true b c = refl
+is_3 false true c = refl
+is_3 false false true = refl
+is_3 false false false = refl
 
-is-4 : (a b c : Bool) → eqb (inOrder a b c) 4 ≡ (not (a || b) && c)
-is-4 true b c = refl
-is-4 false true c = refl
-is-4 false false true = refl
-is-4 false false false = refl
+is_4 : (a b c : Bool) → eqb (in_order a b c) 4 ≡ (not (a || b) && c)
+is_4 true b c = refl
+is_4 false true c = refl
+is_4 false false true = refl
+is_4 false false false = refl
 
-is_0 : (a b c : Bool) → eqb (inOrder a b c) 0 ≡ (not (a || b) && not c)
+is_0 : (a b c : Bool) → eqb (in_order a b c) 0 ≡ (not (a || b) && not c)
 is_0 true b c = refl
 is_0 false true c = refl
 is_0 false false true = refl
 is_0 false false false = refl
 
-below-5 : (a b c : Bool) → inOrder a b c < 5
-below-5 true b c = lit< tt
-below-5 false true c = lit< tt
-below-5 false false true = lit< tt
-below-5 false false false = lit< tt
+below_5 : (a b c : Bool) → in_order a b c < 5
+below_5 true b c = lit< tt
+below_5 false true c = lit< tt
+below_5 false false true = lit< tt
+below_5 false false false = lit< tt
 
 module _ (s : State) (x : Sample) where
-  answered : (sample_of s x).answer ≡ inOrder (outside (sampled_halves x 2)) (outside (sampled_halves x 3)) (is_standby s)
+  answered : (sample_of s x).answer ≡ in_order (outside (sampled_halves x 2)) (outside (sampled_halves x 3)) (is_standby s)
   unfolding sample_answer
   answered = sample_answer_law s x
 
   pub below : (sample_of s x).answer < 5
-  below = rw answered (below-5 (outside (sampled_halves x 2)) (outside (sampled_halves x 3)) (is_standby s))
+  below = rw answered (below_5 (outside (sampled_halves x 2)) (outside (sampled_halves x 3)) (is_standby s))
 
   pub refused : RefusedSample s x
   refused =
       record {
         three =
             ap (λ (a : ℕ). eqb a 3) answered
-            ∙ is-3 (outside (sampled_halves x 2)) (outside (sampled_halves x 3)) (is_standby s);
+            ∙ is_3 (outside (sampled_halves x 2)) (outside (sampled_halves x 3)) (is_standby s);
         four =
             ap (λ (a : ℕ). eqb a 4) answered
-            ∙ is-4 (outside (sampled_halves x 2)) (outside (sampled_halves x 3)) (is_standby s);
+            ∙ is_4 (outside (sampled_halves x 2)) (outside (sampled_halves x 3)) (is_standby s);
         accepted =
             ap (λ (a : ℕ). eqb a 0) answered
             ∙ is_0 (outside (sampled_halves x 2)) (outside (sampled_halves x 3)) (is_standby s);
@@ -69,16 +69,16 @@ module _ (s : State) (x : Sample) where
       }
 
 -- ---- an accepted sample's temperatures are in range
-none-far : (a b c : Bool) → inOrder a b c ≡ 0 → (a ≡ false) × (b ≡ false)
-none-far true b c e = absurd (omega arith)
-none-far false true c e = absurd (omega arith)
-none-far false false c e = (refl, refl)
+none_far : (a b c : Bool) → in_order a b c ≡ 0 → (a ≡ false) × (b ≡ false)
+none_far true b c e = absurd (omega arith)
+none_far false true c e = absurd (omega arith)
+none_far false false c e = (refl, refl)
 
 module _ (s : State) (x : Sample) (a : (sample_of s x).answer ≡ 0) where
   near : (outside (sampled_halves x 2) ≡ false) × (outside (sampled_halves x 3) ≡ false)
   unfolding sample_answer
   near =
-      none-far (outside (sampled_halves x 2)) (outside (sampled_halves x 3)) (is_standby s) (sym (sample_answer_law s x) ∙ a)
+      none_far (outside (sampled_halves x 2)) (outside (sampled_halves x 3)) (is_standby s) (sym (sample_answer_law s x) ∙ a)
 
   pub in_range : (n : ℕ) → 2 ≤ n → n ≤ 3 → holds half9 (sampled_halves x n) ≡ true
   in_range =

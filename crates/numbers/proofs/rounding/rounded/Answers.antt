@@ -8,18 +8,6 @@ use Rattle.numbers.proofs.rounding.rounded.Goals as goal
 pub returns-then-d-eq0 : goal.returns-then-d-eq0
 returns-then-d-eq0 c = (by_zero _ _ c.if-d-eq0.true, nearest_holds)
 
--- LEFT mul-doubled : tie.Need-overflow-mul-doubled
--- mul-doubled c = search rules
-
--- LEFT add-doubled : tie.Need-overflow-add-doubled
--- add-doubled c = search rules
-
--- LEFT mul-result : tie.Need-overflow-mul-result
--- mul-result c = search rules
-
--- LEFT div-result : tie.Need-nonzero-div-result
--- div-result c = search rules
-
 pub returns : goal.returns
 unfolding nearest
 returns c = (refl, nearest_holds)

@@ -5,18 +5,6 @@ use Rattle.numbers.specs.TwosComplement.{level_of}
 use Rattle.numbers.proofs.twos_complement.Complement.{level_lt}
 use Rattle.numbers.proofs.twos_complement.level.Goals as goal
 
--- LEFT cast-half : tie.Need-overflow-cast-half
--- cast-half c = search rules
-
--- LEFT add-result : tie.Need-overflow-add-result
--- add-result c = search rules
-
--- LEFT mul-result : tie.Need-overflow-mul-result
--- mul-result c = search rules
-
--- LEFT rem-result : tie.Need-nonzero-rem-result
--- rem-result c = search rules
-
 pub returns : goal.returns
 returns c =
     let half = c.half_of-half in

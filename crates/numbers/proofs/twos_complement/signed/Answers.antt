@@ -6,9 +6,6 @@ use Rattle.numbers.proofs.twos_complement.Complement.{twos_complement_holds}
 use Rattle.numbers.proofs.twos_complement.Turned.{lower_signed, upper_signed, no_code}
 use Rattle.numbers.proofs.twos_complement.signed.Goals as goal
 
--- LEFT cast-result : tie.Need-overflow-cast-result
--- cast-result c = search rules
-
 pub returns-then-code-half : goal.returns-then-code-half
 returns-then-code-half c =
     let half = c.half_of-half in
@@ -17,21 +14,6 @@ returns-then-code-half c =
           ∙ ap (λ (h : ℕ). signed_of h code) half.ensures.0,
       twos_complement_holds,
     )
-
--- LEFT sub-result : tie.Need-overflow-sub-result
--- sub-result c = search rules
-
--- LEFT sub-result-2 : tie.Need-overflow-sub-result-2
--- sub-result-2 c = search rules
-
--- LEFT cast-result-2 : tie.Need-overflow-cast-result-2
--- cast-result-2 c = search rules
-
--- LEFT sub-result-3 : tie.Need-overflow-sub-result-3
--- sub-result-3 c =
---     let half = c.before.before.half_of_lem in
---     let code = c.before.before.before.args.code in
---     upper_fits w16 half.result code half.ensures.2 c.before.if1.false c.if2.true
 
 pub returns-then-over-half : goal.returns-then-over-half
 returns-then-over-half c =

@@ -5,23 +5,8 @@ use Rattle.numbers.proofs.twos_complement.Turned.{lower_signed, upper_signed}
 use Rattle.numbers.specs.Wrapping.{half64}
 use Rattle.numbers.proofs.wrapping.signed.Goals as goal
 
--- LEFT cast-result : tie.Need-overflow-cast-result
--- cast-result c = search rules
-
 pub returns-then-code-lt-HALF : goal.returns-then-code-lt-HALF
 returns-then-code-lt-HALF c = lower_signed w64 half64 _ (le_refl half64) c.if-code-lt-HALF.true
-
--- LEFT sub-result : tie.Need-overflow-sub-result
--- sub-result c = search rules
-
--- LEFT sub-result-2 : tie.Need-overflow-sub-result-2
--- sub-result-2 c = search rules
-
--- LEFT cast-result-2 : tie.Need-overflow-cast-result-2
--- cast-result-2 c = search rules
-
--- LEFT sub-result-3 : tie.Need-overflow-sub-result-3
--- sub-result-3 c = upper_fits w64 half64 c.before.args.code (le_refl half64) c.if1.false (omega arith)
 
 pub returns : goal.returns
 returns c = upper_signed w64 half64 c.args.code (le_refl half64) c.if-code-lt-HALF.false (omega arith)

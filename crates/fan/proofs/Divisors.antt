@@ -33,10 +33,6 @@ value_le d = pow_mono {i = exponent_of d} {j = 7} (omega (arith, exponent_lt d))
 pub product_le : (n : ℕ) (d : Divisor) → n ≤ 256 → n * value_of d ≤ 32768
 product_le n d h = mul-le-mul {n₂ = 256} {m₂ = 128} h (value_le d)
 
--- a shift in a byte makes the value
-pub shifted : (k : ℕ) → k < 8 → 1 * 2 ^ k % 256 ≡ 2 ^ k
-shifted = same_below 8 (λ k. 1 * 2 ^ k % 256) (λ k. 2 ^ k) tt
-
 -- three bits that were read back
 pub exponent_from_bits : (k : ℕ) → k < 8 → exponent_of (from_bits k) ≡ k
 unfolding from_bits

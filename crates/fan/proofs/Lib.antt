@@ -1,4 +1,3 @@
 pub mod Divisors
-pub mod Counts
 pub mod Speeds
 pub mod DivisorFields

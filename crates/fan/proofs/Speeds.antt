@@ -1,37 +1,19 @@
--- The three cases of a speed, and what holds of every number: it is within a half of 13,500,000 / n, and n is 1 to
+-- What holds of every speed that is a number: it is within a half of 13,500,000 / n, and n is 1 to
 -- 254 x 128 = 32,512.
 -- Assumes nothing.
 use Prim.Native.Nat.{ℕ, ◌+◌, ◌*◌, ◌≤◌, ◌<◌}
 use native.Mathlib.Nat.{mul-le-mul, mul-le-mul_right, mul-pos}
 use native.Mathlib.Omega.{arith}
 use mathlib.Core.Bool.{Bool, true, false}
-use mathlib.Core.Path.{◌≡◌, refl, ap, ◌∙◌}
-use borrow.Author.Tests.{eq-eqb, ne_eqb, leb-true, leb-false}
+use mathlib.Core.Path.{◌≡◌, refl}
+use borrow.Author.Tests.{ne_eqb, leb-true, leb-false}
 use lib.Dec.{leb, lit<}
-use Rattle.fan.specs.declared.Speed.TheVariants.{Tenths, TooFast, TooSlow}
 use Rattle.fan.specs.declared.Divisor.{Divisor}
 use Rattle.fan.specs.Count.{value_of}
-use Rattle.numbers.specs.Rounding.{nearest, IsNearest}
+use Rattle.numbers.specs.Rounding.{IsNearest}
 use Rattle.numbers.proofs.rounding.Quotients.{nearest_holds}
 use Rattle.fan.specs.Speed.{per_tenth, speed_value, count_speed, IsSpeed, SpeedClaims}
 use Rattle.fan.proofs.Divisors.{value_pos, value_le}
-
-module _ (count d : ℕ) where
-  pub none_counted : count ≡ 0 → TooFast ≡ count_speed count d
-  unfolding count_speed
-  none_counted e = simp (eq-eqb _ _ e)
-
-  pub all_counted : (count ≡ 0 → ⊥) → count ≡ 255 → TooSlow ≡ count_speed count d
-  unfolding count_speed
-  all_counted n e = simp (ne_eqb _ _ n, eq-eqb _ _ e)
-
-  pub counted : (count ≡ 0 → ⊥) → (count ≡ 255 → ⊥) → (r v : ℕ) → v ≡ d → r ≡ nearest per_tenth (count * v)
-      → Tenths r ≡ count_speed count d
-  unfolding count_speed
-  counted n m r v e q =
-      simp (ne_eqb _ _ n, ne_eqb _ _ m) (ap Tenths (q ∙ ap (λ (x : ℕ). nearest per_tenth (count * x)) e))
-
--- ---- every number
 
 -- v is the nearest to 13,500,000 / n
 module _ (n v : ℕ) (some : 0 < n) (is : IsNearest per_tenth n v) where

@@ -1,25 +1,24 @@
 -- What a plan is, and what is claimed of it (rules P-1 to P-3, P-8).
-use Rattle.std.specs.Prelude.{ℕ, ◌+◌, ◌*◌, ◌/◌, ◌≤◌, ◌≡◌, Bool, true, ◌||◌, eqb, leb, ltb}
+use Rattle.std.specs.Prelude.{ℕ, ◌+◌, ◌*◌, ◌/◌, ◌≤◌, ◌≡◌, Bool, true, ◌||◌, eqb, leb, ltb, Option, Some, None}
 use Rattle.answers.specs.Answers as answers
 use Rattle.bits.specs.Bits.{choose}
-use Rattle.fan.specs.declared.planner.Planned.{Planned}
-use Rattle.fan.specs.declared.planner.Planned.TheVariants.{Plan, Refused}
+use Rattle.fan.specs.declared.Plan.{Plan}
 use Rattle.fan.specs.Count.{per_minute, value_of, IsDivisor, stored_of, count_of, over_limit}
 
 -- the answer: a plan is accepted, none is A-6
-abbrev pub plan_answer : Planned → ℕ
-plan_answer (Plan d l) = 0
-plan_answer Refused = answers.bad_speed
+abbrev pub plan_answer : Option Plan → ℕ
+plan_answer (Some p) = 0
+plan_answer None = answers.bad_speed
 
 -- the divisor d of a plan; of none 0
-abbrev pub plan_divisor : Planned → ℕ
-plan_divisor (Plan d l) = value_of d
-plan_divisor Refused = 0
+abbrev pub plan_divisor : Option Plan → ℕ
+plan_divisor (Some p) = value_of p.divisor
+plan_divisor None = 0
 
 -- the limit L of a plan; of none 0
-abbrev pub plan_limit : Planned → ℕ
-plan_limit (Plan d l) = l
-plan_limit Refused = 0
+abbrev pub plan_limit : Option Plan → ℕ
+plan_limit (Some p) = p.limit
+plan_limit None = 0
 
 -- (L+1)d, the least u that a divisor d and a limit L from 0 to 254 ring for
 abbrev pub rings_from : ℕ → ℕ → ℕ
@@ -48,7 +47,7 @@ abbrev pub answer_for : ℕ → ℕ
 answer_for w = choose (is_no_speed w) answers.bad_speed 0
 
 -- the planner's answer to w: refused exactly when the table says so, and otherwise the plan
-pub record IsPlanned (w : ℕ) (p : Planned) : Type 0 where
+pub record IsPlanned (w : ℕ) (p : Option Plan) : Type 0 where
   pub answer : plan_answer p ≡ answer_for w
   pub plan : plan_answer p ≡ 0 → IsPlan w (plan_divisor p) (plan_limit p)
 
@@ -67,7 +66,7 @@ Covers d l w = (a b : ℕ) → 1 ≤ b → a ≤ w * b → rings_at d l (count_o
 -- what holds of every plan
 pub record Plans : Type 0 where
   -- no speed has two answers
-  pub unique : (w : ℕ) (p q : Planned) → IsPlanned w p → IsPlanned w q → p ≡ q
+  pub unique : (w : ℕ) (p q : Option Plan) → IsPlanned w p → IsPlanned w q → p ≡ q
   -- a plan rings as its sentence says
   pub exact : (w d l : ℕ) → IsPlan w d l → (u : ℕ) → rings_at d l u ≡ plan_rings d l u
   -- a plan for w rings at every speed up to w

@@ -1,10 +1,9 @@
 -- The plan, computed. `Plan` says what a plan is and that there is one only; this is how
 -- it is found, so that figures compute.
-use Rattle.std.specs.Prelude.{ℕ, zero, suc, ◌-◌, ◌*◌, ◌/◌, min, ltb}
+use Rattle.std.specs.Prelude.{ℕ, zero, suc, ◌-◌, ◌*◌, ◌/◌, min, ltb, Option, Some, None}
 use Rattle.bits.specs.Bits.{choose}
 use Rattle.fan.specs.declared.planner.Choice.{Choice}
-use Rattle.fan.specs.declared.planner.Planned.{Planned}
-use Rattle.fan.specs.declared.planner.Planned.TheVariants.{Plan, Refused}
+use Rattle.fan.specs.declared.Plan.{Plan}
 use Rattle.fan.specs.declared.Divisor.{Divisor}
 use Rattle.fan.specs.Count.{per_minute, value_of, from_bits}
 use Rattle.fan.specs.Plan.{is_no_speed}
@@ -27,9 +26,9 @@ best_to k zero = choice_at k (from_bits 0)
 best_to k (suc e) = better k (best_to k e) (from_bits (suc e))
 
 -- a limit is one below the counts
-abbrev pub planned_by : Choice → Planned
-planned_by c = Plan c.divisor (c.counts - 1)
+abbrev pub planned_by : Choice → Option Plan
+planned_by c = Some (record { divisor = c.divisor; limit = c.counts - 1 })
 
--- refused for 0 and above 1,350,000, and otherwise the best of the eight
-unfoldable pub plan_of : ℕ → Planned
-plan_of w = choose (is_no_speed w) Refused (planned_by (best_to (per_minute / w) 7))
+-- none for 0 and above 1,350,000, and otherwise the best of the eight
+unfoldable pub plan_of : ℕ → Option Plan
+plan_of w = choose (is_no_speed w) None (planned_by (best_to (per_minute / w) 7))

@@ -1,28 +1,26 @@
 -- The speed reading (rule R-2), in tenths of rpm.
 use Rattle.std.specs.Prelude.{ℕ, ◌*◌, ◌^◌, ◌≤◌, ◌<◌, ◌≡◌, eqb}
-use Rattle.answers.specs.Answers as answers
+use Rattle.answers.specs.Refusals.{refusal_number}
 use Rattle.bits.specs.Bits.{choose}
 use Rattle.numbers.specs.Rounding.{nearest, IsNearest}
 use Rattle.fan.specs.declared.Speed.{Speed}
-use Rattle.fan.specs.declared.Speed.TheVariants.{Tenths, TooFast, TooSlow, Refused, WrongLength}
+use Rattle.fan.specs.declared.Speed.TheVariants.{Tenths, TooFast, TooSlow, Refused}
 use Rattle.fan.specs.declared.Divisor.{Divisor}
 use Rattle.fan.specs.Count.{per_minute, value_of}
 
--- the answer: A-7, A-8; "too fast" and "too slow" are accepted. decisions D-47, D-01
+-- the answer: the refusal's, A-7 or A-8; "too fast" and "too slow" are accepted. decisions D-47, D-01
 abbrev pub speed_answer : Speed → ℕ
 speed_answer (Tenths n) = 0
 speed_answer TooFast = 0
 speed_answer TooSlow = 0
-speed_answer Refused = answers.no_channel
-speed_answer WrongLength = answers.wrong_length
+speed_answer (Refused r) = refusal_number r
 
 -- the number that is read; 0 where there is none
 abbrev pub speed_value : Speed → ℕ
 speed_value (Tenths n) = n
 speed_value TooFast = 0
 speed_value TooSlow = 0
-speed_value Refused = 0
-speed_value WrongLength = 0
+speed_value (Refused r) = 0
 
 -- what a fan at one tenth of a turn a minute counts: speeds are read and shown in tenths, and planned in whole rpm
 abbrev pub per_tenth : ℕ

@@ -9,6 +9,7 @@ ghost use Rattle.fan.specs.Speed.{count_speed, SpeedClaims};
 
 pub mod planner;
 
+use answers::Refusal;
 use bits::fields::{Field, gather, replace};
 use numbers::rounding::rounded;
 
@@ -29,21 +30,28 @@ pub struct Undivided(pub u32);
 #[derive(Clone, Copy)]
 pub struct Divided(pub u8);
 
-// One of the eight divisors.
-#[derive(Clone, Copy)]
+// One of the eight divisors. Its three bits are its discriminant, the power of 2 that it divides by.
+#[derive(Clone, Copy, PartialEq, Eq, Debug)]
 pub enum Divisor {
-    By1,
-    By2,
-    By4,
-    By8,
-    By16,
-    By32,
-    By64,
-    By128,
+    By1 = 0,
+    By2 = 1,
+    By4 = 2,
+    By8 = 3,
+    By16 = 4,
+    By32 = 5,
+    By64 = 6,
+    By128 = 7,
+}
+
+// A divisor and a limit that ring from a speed on; one that was planned has a limit of 0 to 254.
+#[derive(Clone, Copy, PartialEq, Eq, Debug)]
+pub struct Plan {
+    pub divisor: Divisor,
+    pub limit: u8,
 }
 
 // What reading a fan's speed answers.
-#[derive(Clone, Copy)]
+#[derive(Clone, Copy, PartialEq, Eq, Debug)]
 pub enum Speed {
     // Tenths of a turn a minute.
     Tenths(u32),
@@ -51,43 +59,35 @@ pub enum Speed {
     TooFast,
     // The count is full.
     TooSlow,
-    // Answer 7: there is no such fan.
-    Refused,
-    // Answer 8: a slice that is not the registers'.
-    WrongLength,
+    // No such fan, or a slice that is not the registers'.
+    Refused(Refusal),
 }
 
 impl Divisor {
+    // The eight, in rising order.
+    pub const ALL: [Divisor; 8] = [
+        Divisor::By1,
+        Divisor::By2,
+        Divisor::By4,
+        Divisor::By8,
+        Divisor::By16,
+        Divisor::By32,
+        Divisor::By64,
+        Divisor::By128,
+    ];
+
     // The divisor of the low three bits.
     pub fn from_bits(bits: u8) -> Self
         ensures { (result ≡ from_bits bits) × (exponent_of result ≡ bits % 8) }
     {
-        match bits % 8 {
-            0 => Divisor::By1,
-            1 => Divisor::By2,
-            2 => Divisor::By4,
-            3 => Divisor::By8,
-            4 => Divisor::By16,
-            5 => Divisor::By32,
-            6 => Divisor::By64,
-            _ => Divisor::By128,
-        }
+        Divisor::ALL[(bits % 8) as usize]
     }
 
     // Its three bits.
     pub fn exponent(self) -> u8
         ensures { result ≡ exponent_of self }
     {
-        match self {
-            Divisor::By1 => 0,
-            Divisor::By2 => 1,
-            Divisor::By4 => 2,
-            Divisor::By8 => 3,
-            Divisor::By16 => 4,
-            Divisor::By32 => 5,
-            Divisor::By64 => 6,
-            Divisor::By128 => 7,
-        }
+        self as u8
     }
 
     // The number that it divides by, 1 to 128.
@@ -114,25 +114,27 @@ impl Divisor {
     }
 }
 
-// The stored count: divided, rounded down, at most full.
-pub fn divide(u: Undivided, divisor: Divisor) -> Divided
-    ensures { result.0 ≡ stored_of u.0 (value_of divisor) }
-{
-    let quotient = u.0 / (divisor.value() as u32);
-    if quotient < FULL as u32 {
-        return Divided(quotient as u8);
+impl Undivided {
+    // The stored count: divided, rounded down, at most full.
+    pub fn divided_by(self, divisor: Divisor) -> Divided
+        ensures { result.0 ≡ stored_of self.0 (value_of divisor) }
+    {
+        let quotient = self.0 / (divisor.value() as u32);
+        if quotient < FULL as u32 {
+            return Divided(quotient as u8);
+        }
+        Divided(FULL)
     }
-    Divided(FULL)
-}
-
-// Whether a stored count is above its limit.
-pub fn rings(count: Divided, limit: u8) -> bool
-    ensures { result ≡ over_limit count.0 limit }
-{
-    limit < count.0
 }
 
 impl Divided {
+    // Whether a stored count is above its limit.
+    pub fn rings(self, limit: u8) -> bool
+        ensures { result ≡ over_limit self.0 limit }
+    {
+        limit < self.0
+    }
+
     // The speed that a stored count and the divisor now set say; never refused.
     pub fn speed(self, divisor: Divisor) -> Speed
         ensures equation { result ≡ count_speed self.0 (value_of divisor) }

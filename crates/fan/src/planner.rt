@@ -5,16 +5,7 @@ ghost use Rattle.fan.specs.Count.{value_of};
 ghost use Rattle.fan.specs.Plan.{rings_from, IsPlanned, Plans};
 ghost use Rattle.fan.specs.Search.{choice_at, product_of, better, best_to, plan_of};
 
-use crate::{Divisor, PER_MINUTE, Undivided, divide};
-
-// What planning answers.
-#[derive(Clone, Copy)]
-pub enum Planned {
-    // A divisor and a limit of 0 to 254.
-    Plan { divisor: Divisor, limit: u8 },
-    // Answer 6: no plan.
-    Refused,
-}
+use crate::{Divisor, PER_MINUTE, Plan, Undivided};
 
 // A divisor with the number of its counts, a limit plus one, that planning weighs.
 #[derive(Clone, Copy)]
@@ -23,70 +14,70 @@ struct Choice {
     counts: u8,
 }
 
-// The most counts of a divisor that stay within k, the undivided count of the speed asked for.
-fn choice_at(k: u32, divisor: Divisor) -> Choice
-    ensures { result ≡ choice_at k divisor }
-{
-    let counts = divide(Undivided(k), divisor);
-    Choice {
-        divisor,
-        counts: counts.0,
+impl Choice {
+    // The most counts of a divisor that stay within k, the undivided count of the speed asked for.
+    fn at(k: u32, divisor: Divisor) -> Self
+        ensures { result ≡ choice_at k divisor }
+    {
+        let counts = Undivided(k).divided_by(divisor);
+        Choice {
+            divisor,
+            counts: counts.0,
+        }
     }
-}
 
-// The undivided count from which a choice rings.
-fn product(choice: Choice) -> u32
-    ensures { result ≡ product_of choice }
-{
-    let divisor = choice.divisor;
-    (choice.counts as u32) * (divisor.value() as u32)
-}
-
-// The better of a choice and one more divisor.
-fn better_of(k: u32, best: Choice, divisor: Divisor) -> Choice
-    ensures { result ≡ better k best divisor }
-{
-    let next = choice_at(k, divisor);
-    if product(best) < product(next) {
-        return next;
+    // The undivided count from which it rings.
+    fn product(self) -> u32
+        ensures { result ≡ product_of self }
+    {
+        (self.counts as u32) * (self.divisor.value() as u32)
     }
-    best
+
+    // The better of it and the choice at one more divisor.
+    fn or_at(self, k: u32, divisor: Divisor) -> Self
+        ensures { result ≡ better k self divisor }
+    {
+        let next = Choice::at(k, divisor);
+        if self.product() < next.product() {
+            return next;
+        }
+        self
+    }
 }
 
 // The best choice of the eight divisors, in rising order.
 fn best_choice(k: u32) -> Choice
     ensures { result ≡ best_to k 7 }
 {
-    let mut best = choice_at(k, Divisor::from_bits(0));
-    for e in 0..7u8 {
-        best = better_of(k, best, Divisor::from_bits(e + 1));
-    }
-    best
+    let first = Choice::at(k, Divisor::By1);
+    Divisor::ALL[1..]
+        .iter()
+        .fold(first, |best, divisor| best.or_at(k, *divisor))
 }
 
 // The divisor and limit whose alarm comes nearest to w turns a minute and misses no slower speed.
-// Refused for 0 and above 1,350,000.
-pub fn plan(w: u32) -> Planned
+// None for 0 and above 1,350,000.
+pub fn plan(w: u32) -> Option<Plan>
     ensures { (result ≡ plan_of w) × IsPlanned w result × Plans }
 {
     if w == 0 {
-        return Planned::Refused;
+        return None;
     }
     if PER_MINUTE < w {
-        return Planned::Refused;
+        return None;
     }
     let best = best_choice(PER_MINUTE / w);
-    let divisor = best.divisor;
-    Planned::Plan {
-        divisor,
+    Some(Plan {
+        divisor: best.divisor,
         limit: best.counts - 1,
-    }
+    })
 }
 
-// The undivided count from which a divisor and a limit ring.
-pub fn rings_from(divisor: Divisor, limit: u8) -> Undivided
-    ensures { result.0 ≡ rings_from (value_of divisor) limit }
-{
-    let count = (limit as u32 + 1) * (divisor.value() as u32);
-    Undivided(count)
+impl Plan {
+    // The undivided count from which its divisor and limit ring.
+    pub fn rings_from(self) -> Undivided
+        ensures { result.0 ≡ rings_from (value_of self.divisor) self.limit }
+    {
+        Undivided((self.limit as u32 + 1) * (self.divisor.value() as u32))
+    }
 }

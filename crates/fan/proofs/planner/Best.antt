@@ -1,22 +1,19 @@
 -- The best choice of the divisors up to an exponent has the largest product within k, and of equals the
 -- smallest divisor. By induction: one more divisor is taken only for a larger product. Assumes nothing.
-use Prim.Native.Nat.{ℕ, zero, suc, ◌+◌, ◌*◌, ◌/◌, ◌^◌, ◌≤◌, ◌<◌}
+use Prim.Native.Nat.{ℕ, zero, suc, ◌*◌, ◌/◌, ◌^◌, ◌≤◌, ◌<◌}
 use native.Mathlib.Nat.{mul-le-mul_right, div-mul-le_self, le-div_iff_mul-le, le-min, min-le_left}
 use native.Mathlib.Nat.{min-le_right, le_trans, le_of_lt, le_of_eq, zero-mul}
 use native.Mathlib.Decide.{dec_le}
-use native.Mathlib.Numerals.{add-one}
 use native.Mathlib.Omega.{arith}
+use Rattle.std.specs.Prelude.{List, [], ◌∷◌, fold}
 use mathlib.Core.Path.{◌≡◌, refl, sym, subst, ap, ◌∙◌}
-use mathlib.Core.Bool.{Bool, true, false}
 use mathlib.Core.Logic.{◌⊎◌, inl, inr, ⊎_elim}
-use lib.Dec.{ltb}
 use lib.Pow.{pow_pos, pow_mono}
-use borrow.Author.Tests.{ltb-true, ltb-false, lt-ltb, le-ltb}
-use Rattle.bits.specs.Bits.{choose}
+use borrow.Author.Tests.{ltb-true, ltb-false}
 use Rattle.bits.proofs.BitLaws.{choose_ind}
 use Rattle.fan.specs.declared.planner.Choice.{Choice}
 use Rattle.fan.specs.declared.Divisor.{Divisor}
-use Rattle.fan.specs.declared.Divisor.TheVariants.{By2}
+use Rattle.fan.specs.declared.Divisor.TheVariants.{By1, By2, By4, By8, By16, By32, By64, By128}
 use Rattle.fan.specs.Count.{exponent_of, value_of, from_bits}
 use Rattle.fan.specs.Search.{product_of, choice_at, better, best_to}
 use Rattle.fan.proofs.Divisors.{exponent_from_bits, value_from_bits, value_pos}
@@ -102,14 +99,13 @@ best k zero h =
     }
 best k (suc e) h = step k e (best_to k e) h (best k e (omega arith))
 
-pub best_to_suc : (k e : ℕ) → best_to k (suc e) ≡ better k (best_to k e) (from_bits (suc e))
-unfolding best_to
-best_to_suc k e = refl
+abbrev pub larger_divisors : List Divisor
+larger_divisors = By2 ∷ By4 ∷ By8 ∷ By16 ∷ By32 ∷ By64 ∷ By128 ∷ []
 
--- a turn of the loop
-pub one_more : (k e : ℕ) (b n : Choice) (d : Divisor) → b ≡ best_to k e → d ≡ from_bits (e + 1) → n ≡ better k b d
-    → n ≡ best_to k (e + 1)
-one_more k e b n d eb ed en = en ∙ rw (eb, ed, add-one) (sym (best_to_suc k e))
+-- weighing them in rising order, from a choice of the smallest
+pub over_eight : (k : ℕ) (c : Choice) → c ≡ choice_at k By1 → fold (better k) c larger_divisors ≡ best_to k 7
+unfolding best_to from_bits
+over_eight k c e = ap (λ (b : Choice). fold (better k) b larger_divisors) e
 
 -- the best choice of the eight
 pub best_of_eight : (k : ℕ) → Best k 7 (best_to k 7)
@@ -130,23 +126,3 @@ counts_pos k h = go (best_to k 7).counts refl
               ∙ zero-mul (value_of (best_to k 7).divisor),
         ))
     go (suc n) q = omega arith
-
--- the two ways through the code of one comparison
-module _ (k : ℕ) (best next : Choice) (d : Divisor) (p q : ℕ) (n : next ≡ choice_at k d) (hp : p ≡ product_of best)
-    (hq : q ≡ product_of next) where
-  same_product : q ≡ product_of (choice_at k d)
-  same_product = hq ∙ ap (λ (c : Choice). product_of c) n
-
-  pub taken : p < q → next ≡ better k best d
-  unfolding better
-  taken h =
-      let t : ltb (product_of best) (product_of (choice_at k d)) ≡ true =
-      lt-ltb (product_of best) (product_of (choice_at k d)) (omega (arith, same_product)) in
-      n ∙ sym (ap (λ (b : Bool). choose b (choice_at k d) best) t)
-
-  pub kept : q ≤ p → best ≡ better k best d
-  unfolding better
-  kept h =
-      let t : ltb (product_of best) (product_of (choice_at k d)) ≡ false =
-      le-ltb (product_of best) (product_of (choice_at k d)) (omega (arith, same_product)) in
-      sym (ap (λ (b : Bool). choose b (choice_at k d) best) t)

@@ -1,18 +1,18 @@
 -- The plan computed is the plan that specs/Plan describes, and what is claimed of every plan holds.
 -- A limit below 255 rings from (L+1)d up, the plan's product is the largest not above K,
 -- and w itself counts K. Assumes nothing.
-use Prim.Native.Nat.{ℕ, ◌+◌, ◌-◌, ◌*◌, ◌/◌, ◌^◌, ◌≤◌, ◌<◌}
+use Prim.Native.Nat.{ℕ, ◌+◌, ◌-◌, ◌*◌, ◌/◌, ◌^◌, ◌≤◌}
 use native.Mathlib.Nat.{mul-le-mul, mul-div_cancel, div-zero, le-div_iff_mul-le, le_trans, le_of_eq, le_antisymm}
 use native.Mathlib.Omega.{arith}
+use Rattle.std.specs.Prelude.{Option, Some, None}
 use mathlib.Core.Path.{◌≡◌, refl, sym, subst, ap, ap₂, ◌∙◌}
 use mathlib.Core.Bool.{Bool, true, false, ◌||◌}
 use lib.Dec.{eqb, ltb}
-use borrow.Author.Tests.{eqb-false, ltb-true, ltb-false, eq-eqb, ne_eqb, lt-ltb, le-ltb}
+use borrow.Author.Tests.{eqb-false, ltb-true, ltb-false}
 use Rattle.bits.specs.Bits.{choose}
 use Rattle.fan.specs.declared.planner.Choice.{Choice}
 use Rattle.fan.specs.declared.Divisor.{Divisor}
-use Rattle.fan.specs.declared.planner.Planned.{Planned}
-use Rattle.fan.specs.declared.planner.Planned.TheVariants.{Plan, Refused}
+use Rattle.fan.specs.declared.Plan.{Plan}
 use Rattle.fan.specs.Count.{per_minute, value_of, stored_of, count_of}
 use Rattle.fan.specs.Plan.{IsPlan, IsPlanned, Plans, rings_from, asked, is_no_speed, rings_at}
 use Rattle.fan.specs.Search.{product_of, best_to, planned_by, plan_of}
@@ -62,7 +62,7 @@ pub plan_of_is : (w : ℕ) → IsPlanned w (plan_of w)
 unfolding plan_of
 plan_of_is w = go (is_no_speed w) refl
   where
-    go : (t : Bool) → is_no_speed w ≡ t → IsPlanned w (choose t Refused (planned_by (best_to (asked w) 7)))
+    go : (t : Bool) → is_no_speed w ≡ t → IsPlanned w (choose t None (planned_by (best_to (asked w) 7)))
     go true e = record { answer = sym (ap (λ (t : Bool). choose t 6 0) e); plan = λ z. absurd (omega (arith, z)) }
     go false e =
         record {
@@ -70,8 +70,12 @@ plan_of_is w = go (is_no_speed w) refl
           plan = λ z. chosen_is w (asked_pos w (in_range w e).0 (in_range w e).1);
         }
 
+abbrev planned : Divisor → ℕ → Option Plan
+planned d l = Some (record { divisor = d; limit = l })
+
 -- one plan only: the products are equal, then the divisors, then the limits
-plan_unique : (w l m : ℕ) (d e : Divisor) → IsPlan w (value_of d) l → IsPlan w (value_of e) m → Plan d l ≡ Plan e m
+plan_unique : (w l m : ℕ) (d e : Divisor) → IsPlan w (value_of d) l → IsPlan w (value_of e) m
+    → planned d l ≡ planned e m
 plan_unique w l m d e p q =
     let s : rings_from (value_of d) l ≡ rings_from (value_of e) m =
     le_antisymm (q.largest (value_of d) l (value_is d) p.limit p.within)
@@ -81,13 +85,13 @@ plan_unique w l m d e p q =
     (q.smallest (value_of d) l (value_is d) p.limit s) in
     let n : l + 1 ≡ m + 1 =
     sym (mul-div_cancel (l + 1) (value_pos d)) ∙ ap₂ (λ (x y : ℕ). x / y) s v ∙ mul-div_cancel (m + 1) (value_pos e) in
-    ap₂ Plan (value_inj d e v) (omega arith)
+    ap₂ planned (value_inj d e v) (omega arith)
 
-unique : (w : ℕ) (p q : Planned) → IsPlanned w p → IsPlanned w q → p ≡ q
-unique w (Plan d l) (Plan e m) a b = plan_unique w l m d e (a.plan refl) (b.plan refl)
-unique w (Plan d l) Refused a b = let z : ◌≡◌ {A = ℕ} 0 6 = a.answer ∙ sym b.answer in absurd (omega arith)
-unique w Refused (Plan d l) a b = let z : ◌≡◌ {A = ℕ} 6 0 = a.answer ∙ sym b.answer in absurd (omega arith)
-unique w Refused Refused a b = refl
+unique : (w : ℕ) (p q : Option Plan) → IsPlanned w p → IsPlanned w q → p ≡ q
+unique w (Some p) (Some q) a b = plan_unique w p.limit q.limit p.divisor q.divisor (a.plan refl) (b.plan refl)
+unique w (Some p) None a b = let z : ◌≡◌ {A = ℕ} 0 6 = a.answer ∙ sym b.answer in absurd (omega arith)
+unique w None (Some q) a b = let z : ◌≡◌ {A = ℕ} 6 0 = a.answer ∙ sym b.answer in absurd (omega arith)
+unique w None None a b = refl
 
 -- nothing is planned for 0 rpm
 nonzero : {w d l : ℕ} → IsPlan w d l → w ≡ 0 → ⊥
@@ -120,22 +124,9 @@ plans_hold =
     below : (e m u : ℕ) → rings_at e m u ≡ true → m ≤ 254
     below e m u r = omega (arith, ltb-true m (stored_of u e) r)
 
--- the three ways through the code
-pub none_asked : (w : ℕ) → w ≡ 0 → Refused ≡ plan_of w
-unfolding plan_of
-none_asked w e = simp (eq-eqb _ _ e)
-
-pub too_much_asked : (w : ℕ) → (w ≡ 0 → ⊥) → per_minute < w → Refused ≡ plan_of w
-unfolding plan_of
-too_much_asked w n h = simp (ne_eqb _ _ n, lt-ltb _ _ h)
-
-pub found : (w : ℕ) (c : Choice) → (w ≡ 0 → ⊥) → w ≤ per_minute → c ≡ best_to (asked w) 7 → planned_by c ≡ plan_of w
-unfolding plan_of
-found w c n h e = simp (ne_eqb _ _ n, le-ltb _ _ h) (ap planned_by e)
-
 pub counts_of : (w : ℕ) (c : Choice) → (w ≡ 0 → ⊥) → w ≤ per_minute → c ≡ best_to (asked w) 7 → 1 ≤ c.counts
 counts_of w c n h e = subst (λ (x : Choice). 1 ≤ x.counts) (sym e) (counts_pos (asked w) (asked_pos w n h))
 
 -- what `plan` promises of an answer that is the computed one
-pub promised : (w : ℕ) {r : Planned} → r ≡ plan_of w → (r ≡ plan_of w) × IsPlanned w r × Plans
-promised w {r} e = (e, subst (λ (p : Planned). IsPlanned w p) (sym e) (plan_of_is w), plans_hold)
+pub promised : (w : ℕ) {r : Option Plan} → r ≡ plan_of w → (r ≡ plan_of w) × IsPlanned w r × Plans
+promised w {r} e = (e, subst (λ (p : Option Plan). IsPlanned w p) (sym e) (plan_of_is w), plans_hold)

@@ -1,11 +1,10 @@
 -- Sums in 64 bits: the low bits of a sum are those of the low bits' sum, and a number that 64 bits hold is not changed.
 -- Assumes nothing.
-use Rattle.std.proofs.Common.{◌≡◌, ℕ, suc, ◌+◌, ◌-◌, ◌*◌, ◌%◌, ◌^◌, ◌<◌, ◌≤◌, Bool, true, false, ltb, ℤ, pos, negsuc, ◌+ℤ◌, sym, refl, ap, ◌∙◌, arith, w64, SFits, ltb-false, ltb-true, lt-ltb}
+use Rattle.std.proofs.Common.{◌≡◌, ℕ, suc, ◌+◌, ◌-◌, ◌*◌, ◌%◌, ◌^◌, ◌<◌, ◌≤◌, Bool, true, false, ltb, ℤ, pos, negsuc, ◌+ℤ◌, sym, refl, ap, ◌∙◌, arith, w64, SFits, to_z, of_z, ltb-false, ltb-true, lt-ltb}
 use lib.IntN.{sub_ℕ}
-use mir.ValLaws.{to_z-of_z}
+use mir.ValLaws.{to_z_pos}
 use Rattle.numbers.specs.TwosComplement.{signed_of, code_of, holds}
-use Rattle.numbers.proofs.twos_complement.Complement.{twos_complement_holds}
-use Rattle.numbers.proofs.twos_complement.Turned.{read}
+use Rattle.numbers.proofs.twos_complement.Complement.{twos_complement_holds, low_half, upper}
 use Rattle.numbers.specs.Wrapping.{half64, low_bits, wrapped}
 
 -- all numbers of 64 bits
@@ -61,14 +60,20 @@ wrapped_more s z =
     same_low (wrapped s +ℤ z) (s +ℤ z)
     (low_add (wrapped s) z ∙ ap (λ (n : ℕ). (n + low_bits z) % all) (low_wrapped s) ∙ sym (low_add s z))
 
--- as the code adds two numbers, by their codes
-code_low : (z : ℤ) (x : ℕ) → SFits w64 z → x ≡ code_of half64 (read w64 z) → x ≡ low_bits z
-code_low z x f e = e ∙ ap (code_of half64) (to_z-of_z w64 z f) ∙ sym (low_code z (fits_holds z f))
+-- ---- the machine's sum, of the 64 bits of two numbers
+bits_low : (z : ℤ) → SFits w64 z → of_z w64 z ≡ low_bits z
+bits_low (pos n) f = sym (low_code (pos n) (fits_holds (pos n) f))
+bits_low (negsuc n) f = sym (low_code (negsuc n) (fits_holds (negsuc n) f))
 
-pub add_wraps : (a b r : ℤ) (x y n : ℕ) → SFits w64 a → SFits w64 b → SFits w64 r → x ≡ code_of half64 (read w64 a)
-    → y ≡ code_of half64 (read w64 b) → n ≡ (x + y) % 2 ^ 64 → r ≡ signed_of half64 n → read w64 r ≡ wrapped (a +ℤ b)
+bits_signed : (n : ℕ) → n < all → to_z w64 n ≡ signed_of half64 n
+bits_signed n h = go (ltb n half64) refl
+  where
+    go : (t : Bool) → ltb n half64 ≡ t → to_z w64 n ≡ signed_of half64 n
+    go true e = let l : n < half64 = ltb-true n half64 e in to_z_pos w64 n l ∙ low_half half64 n l
+    go false e = rw e (ap negsuc (omega arith) ∙ sym (upper half64 n (ltb-false n half64 e) h))
+
+pub add_wraps : (a b : ℤ) → SFits w64 a → SFits w64 b → to_z w64 ((of_z w64 a + of_z w64 b) % 2 ^ 64) ≡ wrapped (a +ℤ b)
 unfolding wrapped
-add_wraps a b r x y n fa fb fr ea eb en er =
-    to_z-of_z w64 r fr
-    ∙ er
-    ∙ ap (signed_of half64) (en ∙ rw (code_low a x fa ea, code_low b y fb eb) refl ∙ sym (low_add a b))
+add_wraps a b f g =
+    bits_signed ((of_z w64 a + of_z w64 b) % 2 ^ 64) (omega arith)
+    ∙ ap (signed_of half64) (rw (bits_low a f, bits_low b g) (sym (low_add a b)))

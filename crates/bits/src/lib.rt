@@ -8,9 +8,9 @@ ghost use Rattle.bits.specs.Bits.{bit, number_of, is_on, in_set, merge_of, chang
 pub mod fields;
 
 // The number of a bit of a byte: no other can be written.
-#[derive(Clone, Copy)]
+#[derive(Clone, Copy, PartialEq, Eq, Debug)]
 pub enum Bit {
-    B0,
+    B0 = 0,
     B1,
     B2,
     B3,
@@ -25,16 +25,7 @@ impl Bit {
     pub fn number(self) -> u8
         ensures { result ≡ number_of self }
     {
-        match self {
-            Bit::B0 => 0,
-            Bit::B1 => 1,
-            Bit::B2 => 2,
-            Bit::B3 => 3,
-            Bit::B4 => 4,
-            Bit::B5 => 5,
-            Bit::B6 => 6,
-            Bit::B7 => 7,
-        }
+        self as u8
     }
 }
 
@@ -42,8 +33,7 @@ impl Bit {
 pub fn bit_of(byte: u8, b: Bit) -> u8
     ensures { result ≡ bit byte (number_of b) }
 {
-    let j = b.number();
-    (byte >> j) & 1
+    (byte >> b.number()) & 1
 }
 
 // Whether a bit of a byte is 1.
@@ -53,17 +43,25 @@ pub fn is_on(byte: u8, b: Bit) -> bool
     bit_of(byte, b) == 1
 }
 
-// Whether a number is in a set of numbers below 128, given as two words of bits: such a set costs no memory.
-pub fn in_set(low: u64, high: u64, number: usize) -> bool
-    ensures { result ≡ in_set low high number }
-{
-    if number < 64 {
-        return (low >> number) % 2 == 1;
+// A set of numbers below 128, such as cells, by two words of bits: it costs no memory.
+#[derive(Clone, Copy, PartialEq, Eq, Debug)]
+pub struct CellSet {
+    pub low: u64,
+    pub high: u64,
+}
+
+impl CellSet {
+    pub fn contains(self, number: usize) -> bool
+        ensures { result ≡ in_set self.low self.high number }
+    {
+        if number < 64 {
+            (self.low >> number) % 2 == 1
+        } else if number < 128 {
+            (self.high >> (number - 64)) % 2 == 1
+        } else {
+            false
+        }
     }
-    if number < 128 {
-        return (high >> (number - 64)) % 2 == 1;
-    }
-    false
 }
 
 // The bits of the mask from the byte, every other bit from the old byte.
@@ -77,10 +75,7 @@ pub fn merge(old: u8, mask: u8, byte: u8) -> u8
 pub fn cell(s: &[u8], at: usize) -> u8
     ensures { result ≡ get_or s.now at 0 }
 {
-    if at < s.len() {
-        return s[at];
-    }
-    0
+    s.get(at).copied().unwrap_or(0)
 }
 
 // A byte stored in a cell.
@@ -105,7 +100,7 @@ pub fn store(s: &mut [u8], cell: usize, mask: u8, byte: u8)
 pub fn flag(on: bool) -> u8
     ensures { result ≡ flag_of on }
 {
-    if on { 1 } else { 0 }
+    u8::from(on)
 }
 
 // Eight flags as a byte, the first in bit 0.

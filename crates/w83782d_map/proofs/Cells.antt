@@ -1,78 +1,30 @@
 -- The code's sets of cells, and its values by their exceptions, are those of the rows.
 -- One computed test over all cells for the sets; the values by their arms. Assumes nothing.
-use mathlib.Core.Path.{◌≡◌, refl, sym, ◌∙◌}
-use mathlib.Core.Bool.{Bool, true, false, not, ◌&&◌, ◌||◌, and-false, beq}
+use mathlib.Core.Path.{◌≡◌, refl, sym, ap, ◌∙◌}
+use mathlib.Core.Bool.{Bool, true, false, not, ◌&&◌, ◌||◌, and-false, beq, true≢false}
 use mathlib.Core.List.{List, [], ◌∷◌}
 use mathlib.Core.Logic.{⊎_elim}
 use Prim.Native.Nat.{ℕ, ◌+◌, ◌-◌, ◌<◌, ◌≤◌}
 use native.Mathlib.Omega.{arith}
-use borrow.Author.Tests.{ne_eqb, le-ltb, lt-leb, ltb-true, not-true, not-false}
+use borrow.Author.Tests.{ne_eqb, le-ltb, lt-leb, ltb-true, eqb-true, not-true, not-false}
 use lib.Dec.{T, eqb, eqb→eq, ltb, ltb→lt, leb}
-use Rattle.bits.specs.Bits.{bit, in_set}
+use Rattle.bits.specs.Bits.{bit, choose, in_set}
 use Rattle.bits.specs.Map.{Row, row_says}
-use Rattle.bits.proofs.Every.{both, both_left, both_right, every_at, by_bound, beq_same}
+use Rattle.bits.proofs.Every.{both, both_left, both_right, every, every_at, by_bound}
 use Rattle.bits.proofs.ChangeLaws.{and_left}
+use Rattle.bits.proofs.Sets.{set_is}
 use Rattle.bits.proofs.Match.{NoKey, or_either, rest_arm}
 use Rattle.w83782d_map.specs.Map.{at, at_bank, bank_at, index_at, cells, rows}
 use Rattle.w83782d_map.specs.Map.{kept_by_reset, present_at, writable_at, power_on_at, kept_at}
 use Rattle.w83782d_map.specs.Cells.{chassis_clear, configuration}
 use Rattle.w83782d_map.specs.Access.{write_answer, stored_bits}
 
--- ---- sets of cells
-abbrev pub present : ℕ → Bool
-present = in_set 0xffc0_ffdf_3fff_ffff 0x0600_007f_007f
-
-abbrev pub unwritable : ℕ → Bool
-unwritable = in_set 0x0100_8206_0000_07ff 0x0600_0003_0003
-
-abbrev kept : ℕ → Bool
-kept = in_set 0x0000_0100_0000_07ff 0x0000_0003_0003
-
-abbrev present_same : ℕ → Bool
-present_same c = beq (present c) (present_at c)
-
-abbrev unwritable_same : ℕ → Bool
-unwritable_same c = beq (unwritable c) (present_at c && eqb (writable_at c) 0)
-
-abbrev kept_same : ℕ → Bool
-kept_same c = beq (kept c) (kept_at c)
-
-as_rows : ℕ → Bool
-as_rows c = both (present_same c) (both (unwritable_same c) (kept_same c))
-
-module _ (c : ℕ) (h : c < cells) where
-  as_rows_law : T (as_rows c)
-  unfolding as_rows bit present_at writable_at kept_at rows kept_by_reset
-  as_rows_law = every_at as_rows cells tt c h
-
-  pub present_rows : present c ≡ present_at c
-  unfolding as_rows
-  present_rows =
-      beq_same (present c) (present_at c) (both_left (present_same c) (both (unwritable_same c) (kept_same c)) as_rows_law)
-
-  unwritable_rows : unwritable c ≡ (present_at c && eqb (writable_at c) 0)
-  unfolding as_rows
-  unwritable_rows =
-      beq_same (unwritable c) (present_at c && eqb (writable_at c) 0)
-      (both_left (unwritable_same c) (kept_same c)
-      (both_right (present_same c) (both (unwritable_same c) (kept_same c)) as_rows_law))
-
-  kept_rows : kept c ≡ kept_at c
-  unfolding as_rows
-  kept_rows =
-      beq_same (kept c) (kept_at c)
-      (both_right (unwritable_same c) (kept_same c)
-      (both_right (present_same c) (both (unwritable_same c) (kept_same c)) as_rows_law))
-
--- ---- the functions of a cell, by their cases
+-- ---- beyond the cells there is no register, and a reset keeps none
 pub present_out : (c : ℕ) → cells ≤ c → false ≡ present_at c
 unfolding present_at
 present_out c h = simp (le-ltb c cells h)
 
-pub present_in : (c : ℕ) (r : Bool) → c < cells → r ≡ present c → r ≡ present_at c
-present_in c r h e = e ∙ present_rows c h
-
-pub kept_out : (c : ℕ) → cells ≤ c → false ≡ kept_at c
+kept_out : (c : ℕ) → cells ≤ c → false ≡ kept_at c
 unfolding kept_at kept_by_reset
 kept_out c h =
     simp (
@@ -84,32 +36,57 @@ kept_out c h =
       and-false,
     )
 
-pub kept_in : (c : ℕ) (r : Bool) → c < cells → r ≡ kept c → r ≡ kept_at c
-kept_in c r h e = e ∙ kept_rows c h
-
 pub answer_out : (c : ℕ) → cells ≤ c → 1 ≡ write_answer c
 unfolding write_answer
 answer_out c h = simp (← present_out c h)
 
-pub answer_absent : (c : ℕ) (r : Bool) → c < cells → r ≡ present c → not r ≡ true → 1 ≡ write_answer c
-unfolding write_answer
-answer_absent c r h e f = simp (← present_rows c h, ← e, not-true r f)
+-- ---- sets of cells, as two words: which set they are is computed where a function cites one
+abbrev IsSet : ℕ → ℕ → (ℕ → Bool) → Type 0
+IsSet l h f = T (every (λ c. beq (in_set l h c) (f c)) 128)
 
-pub answer_read_only : (c : ℕ) (r u : Bool) → c < cells → r ≡ present c → not r ≡ false → u ≡ unwritable c → u ≡ true
-    → 2 ≡ write_answer c
-unfolding write_answer
-answer_read_only c r u h e f g k =
-    let p : present_at c ≡ true = sym (present_rows c h) ∙ sym e ∙ not-false r f in
-    let w : eqb (writable_at c) 0 ≡ true = rw p at (sym (unwritable_rows c h) ∙ sym g ∙ k) in
-    simp (p, w)
+abbrev is_read_only : ℕ → Bool
+is_read_only c = eqb (write_answer c) 2
 
-pub answer_accepted : (c : ℕ) (r u : Bool) → c < cells → r ≡ present c → not r ≡ false → u ≡ unwritable c → u ≡ false
-    → 0 ≡ write_answer c
-unfolding write_answer
-answer_accepted c r u h e f g k =
-    let p : present_at c ≡ true = sym (present_rows c h) ∙ sym e ∙ not-false r f in
-    let w : eqb (writable_at c) 0 ≡ false = rw p at (sym (unwritable_rows c h) ∙ sym g ∙ k) in
-    simp (p, w)
+module _ (l h : ℕ) where
+  pub present_set : IsSet l h present_at → (c : ℕ) → in_set l h c ≡ present_at c
+  present_set t = set_is l h present_at t (λ c k. present_out c (omega arith))
+
+  pub read_only_set : IsSet l h is_read_only → (c : ℕ) → in_set l h c ≡ is_read_only c
+  read_only_set t = set_is l h is_read_only t (λ c k. ap (λ (x : ℕ). eqb x 2) (answer_out c (omega arith)))
+
+  pub kept_set : IsSet l h kept_at → (c : ℕ) → in_set l h c ≡ kept_at c
+  kept_set t = set_is l h kept_at t (λ c k. kept_out c (omega arith))
+
+-- the set of the registers' cells
+abbrev pub present : ℕ → Bool
+present = in_set 0xffc0_ffdf_3fff_ffff 0x0600_007f_007f
+
+pub present_rows : (c : ℕ) → c < cells → present c ≡ present_at c
+unfolding present_at rows bit
+present_rows c h = present_set _ _ tt c
+
+-- ---- the answer to a write, by its cases
+abbrev decided : Bool → ℕ
+decided w = choose w 2 0
+
+by_none : (w : Bool) → eqb (decided w) 2 ≡ false → 0 ≡ decided w
+by_none true n = absurd (true≢false n)
+by_none false n = refl
+
+module _ (c : ℕ) where
+  pub answer_absent : (p : Bool) → p ≡ present_at c → not p ≡ true → 1 ≡ write_answer c
+  unfolding write_answer
+  answer_absent p e n = simp (← e, not-true p n)
+
+  pub answer_read_only : (r : Bool) → r ≡ is_read_only c → r ≡ true → 2 ≡ write_answer c
+  answer_read_only r e t = sym (eqb-true (write_answer c) 2 (sym e ∙ t))
+
+  pub answer_accepted : (p r : Bool) → p ≡ present_at c → not p ≡ false → r ≡ is_read_only c → r ≡ false
+      → 0 ≡ write_answer c
+  unfolding write_answer
+  answer_accepted p r e n g u =
+      let present : present_at c ≡ true = sym e ∙ not-false p n in
+      rw present (by_none (eqb (writable_at c) 0) (rw present at (sym g ∙ u)))
 
 -- an accepted write is to a cell
 pub answered_cell : (c : ℕ) → write_answer c ≡ 0 → c < cells

@@ -3,11 +3,12 @@
 #![tactic(auto)]
 
 ghost use Rattle.std.specs.Prelude.{◌≡◌};
+ghost use Rattle.answers.specs.Refusals.{answer_of};
 ghost use Rattle.w83782d_map.specs.Map.{present_at, power_on_at, kept_at};
 ghost use Rattle.w83782d_map.specs.Access.{write_answer, stored_bits};
 
-use answers::{ABSENT, ACCEPTED, READ_ONLY};
-use bits::in_set;
+use answers::Refusal;
+use bits::CellSet;
 
 // ---- Cells: bank 0 20h-5Fh, then banks 1, 2 and 4 from 50h up
 
@@ -162,42 +163,39 @@ pub const REAL_TIME_STATUS_2: usize = BANK_4 + 0xa;
 
 // Sets of cells, a bit for each: from the right 20h-2Fh, 30h-3Fh, 40h-4Fh, 50h-5Fh of bank 0; then, in the
 // second word, 50h-5Fh of banks 1, 2 and 4.
-const PRESENT: u64 = 0xffc0_ffdf_3fff_ffff;
+const PRESENT: CellSet = CellSet {
+    low: 0xffc0_ffdf_3fff_ffff,
+    high: 0x0600_007f_007f,
+};
 
-const PRESENT_BANKED: u64 = 0x0600_007f_007f;
+const UNWRITABLE: CellSet = CellSet {
+    low: 0x0100_8206_0000_07ff,
+    high: 0x0600_0003_0003,
+};
 
-const UNWRITABLE: u64 = 0x0100_8206_0000_07ff;
-
-const UNWRITABLE_BANKED: u64 = 0x0600_0003_0003;
-
-const KEPT_BY_RESET: u64 = 0x0000_0100_0000_07ff;
-
-const KEPT_BY_RESET_BANKED: u64 = 0x0000_0003_0003;
+const KEPT_BY_RESET: CellSet = CellSet {
+    low: 0x0000_0100_0000_07ff,
+    high: 0x0000_0003_0003,
+};
 
 // Whether a number is the cell of a register.
 pub fn is_present(cell: usize) -> bool
     ensures { result ≡ present_at cell }
 {
-    if CELLS <= cell {
-        return false;
-    }
-    in_set(PRESENT, PRESENT_BANKED, cell)
+    PRESENT.contains(cell)
 }
 
 // The answer to a write to a cell.
-pub fn answer_to_write(cell: usize) -> u8
-    ensures { result ≡ write_answer cell }
+pub fn answer_to_write(cell: usize) -> Result<(), Refusal>
+    ensures { answer_of result ≡ write_answer cell }
 {
-    if CELLS <= cell {
-        return ABSENT;
+    if !is_present(cell) {
+        return Err(Refusal::Absent);
     }
-    if !in_set(PRESENT, PRESENT_BANKED, cell) {
-        return ABSENT;
+    if UNWRITABLE.contains(cell) {
+        return Err(Refusal::ReadOnly);
     }
-    if in_set(UNWRITABLE, UNWRITABLE_BANKED, cell) {
-        return READ_ONLY;
-    }
-    ACCEPTED
+    Ok(())
 }
 
 // The bits that a write to a cell stores: none where it is refused, and none of 46h, which is a command. No arm has two
@@ -261,8 +259,5 @@ pub fn power_on_byte(cell: usize) -> u8
 pub fn is_kept_by_reset(cell: usize) -> bool
     ensures { result ≡ kept_at cell }
 {
-    if CELLS <= cell {
-        return false;
-    }
-    in_set(KEPT_BY_RESET, KEPT_BY_RESET_BANKED, cell)
+    KEPT_BY_RESET.contains(cell)
 }

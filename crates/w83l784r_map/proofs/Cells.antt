@@ -5,8 +5,11 @@ use mathlib.Core.Bool.{Bool, true, false, not, beq, true≢false}
 use mathlib.Core.List.{List, [], ◌∷◌, reverse}
 use Prim.Native.Nat.{ℕ, ◌+◌, ◌≤◌}
 use native.Mathlib.Omega.{arith}
-use borrow.Author.Tests.{eq-eqb, ne_eqb, le-ltb, eqb-true, not-true, not-false}
+use borrow.Author.Tests.{ne_eqb, le-ltb, eqb-true, not-true, not-false}
 use lib.Dec.{T, eqb}
+use Rattle.answers.specs.declared.Refusal.{Refusal}
+use Rattle.answers.specs.Refusals.{refusal_number}
+use Rattle.answers.proofs.Refusals.{is_refused}
 use Rattle.bits.specs.Bits.{choose, in_set}
 use Rattle.bits.specs.Map.{Span, covers, among}
 use Rattle.bits.proofs.Every.{every, by_bound, same_below}
@@ -109,12 +112,11 @@ stored_is c =
     by_bound cells c (same_below cells stored_bits (λ k. choose (eqb (write_answer k) 0) (shown_bits k) 0) tt c)
     (λ h. simp (stored_out c h, ← answer_out c h))
 
-module _ (c a : ℕ) (e : a ≡ write_answer c) where
-  pub stored_refused : (a ≡ 0 → ⊥) → 0 ≡ stored_bits c
-  stored_refused n = simp (stored_is c, ← e, ne_eqb a 0 n)
+pub stored_refused : (c : ℕ) (r : Refusal) → refusal_number r ≡ write_answer c → 0 ≡ stored_bits c
+stored_refused c r e = simp (stored_is c, ← e, ne_eqb (refusal_number r) 0 (is_refused r))
 
-  pub stored_shown : (s : ℕ) → a ≡ 0 → s ≡ shown_bits c → s ≡ stored_bits c
-  stored_shown s n f = simp (stored_is c, ← e, eq-eqb a 0 n) f
+pub stored_shown : (c s : ℕ) → 0 ≡ write_answer c → s ≡ shown_bits c → s ≡ stored_bits c
+stored_shown c s e f = simp (stored_is c, ← e) f
 
 -- ---- the values of a cell: the keys of each arm, and what every other number has
 abbrev pub shown_keys : List (List ℕ)

@@ -4,11 +4,12 @@
 #![tactic(auto)]
 
 ghost use Rattle.std.specs.Prelude.{◌≡◌};
+ghost use Rattle.answers.specs.Refusals.{answer_of};
 ghost use Rattle.w83l784r_map.specs.Map.{present_at, power_on_at, kept_at, identity_at};
 ghost use Rattle.w83l784r_map.specs.Access.{write_answer, stored_bits, shown_bits};
 
-use answers::{ABSENT, ACCEPTED, OFFSET_LOCKED, READ_ONLY};
-use bits::in_set;
+use answers::Refusal;
+use bits::CellSet;
 
 // ---- Cells: the main device's 20h-5Fh and 80h-9Fh, then the sets of sensors 2 and 3
 
@@ -188,47 +189,52 @@ const SENSOR_3_OVER_LOW: usize = SENSOR_3 + SENSOR_OVER + 1;
 
 // Sets of cells, a bit for each: from the right 20h-2Fh, 30h-3Fh, 40h-4Fh, 50h-5Fh; then, in the second word, 80h-8Fh,
 // 90h-9Fh and eight for each of the sets of sensors 2 and 3.
-const PRESENT: u64 = 0x0fff_fe7f_1e07_fb8f;
+const PRESENT: CellSet = CellSet {
+    low: 0x0fff_fe7f_1e07_fb8f,
+    high: 0x7f7f_0007_ffff,
+};
 
-const PRESENT_UPPER: u64 = 0x7f7f_0007_ffff;
+const UNWRITABLE: CellSet = CellSet {
+    low: 0x0000_7066_0000_038f,
+    high: 0x0303_0000_0000,
+};
 
-const UNWRITABLE: u64 = 0x0000_7066_0000_038f;
+const LOCKED: CellSet = CellSet {
+    low: 0x0000_0000_0000_0000,
+    high: 0x0000_0007_0000,
+};
 
-const UNWRITABLE_UPPER: u64 = 0x0303_0000_0000;
+const KEPT_BY_RESET: CellSet = CellSet {
+    low: 0x0000_0400_0000_038f,
+    high: 0x0303_0007_0000,
+};
 
-const LOCKED: u64 = 0x0000_0000_0000_0000;
-
-const LOCKED_UPPER: u64 = 0x0000_0007_0000;
-
-const KEPT_BY_RESET: u64 = 0x0000_0400_0000_038f;
-
-const KEPT_BY_RESET_UPPER: u64 = 0x0303_0007_0000;
-
-const IDENTITY: u64 = 0x0000_7000_0000_0000;
-
-const IDENTITY_UPPER: u64 = 0x0000_0000_0000;
+const IDENTITY: CellSet = CellSet {
+    low: 0x0000_7000_0000_0000,
+    high: 0x0000_0000_0000,
+};
 
 // Whether a number is the cell of a register.
 pub fn is_present(cell: usize) -> bool
     ensures { result ≡ present_at cell }
 {
-    in_set(PRESENT, PRESENT_UPPER, cell)
+    PRESENT.contains(cell)
 }
 
 // The answer to a bus write to a cell.
-pub fn answer_to_write(cell: usize) -> u8
-    ensures { result ≡ write_answer cell }
+pub fn answer_to_write(cell: usize) -> Result<(), Refusal>
+    ensures { answer_of result ≡ write_answer cell }
 {
     if !is_present(cell) {
-        return ABSENT;
+        return Err(Refusal::Absent);
     }
-    if in_set(LOCKED, LOCKED_UPPER, cell) {
-        return OFFSET_LOCKED;
+    if LOCKED.contains(cell) {
+        return Err(Refusal::OffsetLocked);
     }
-    if in_set(UNWRITABLE, UNWRITABLE_UPPER, cell) {
-        return READ_ONLY;
+    if UNWRITABLE.contains(cell) {
+        return Err(Refusal::ReadOnly);
     }
-    ACCEPTED
+    Ok(())
 }
 
 // The bits of a cell that a read shows; every other bit reads 0. No arm has two neighbours, which would make it a range
@@ -273,10 +279,10 @@ pub fn shown_bits(cell: usize) -> u8
 pub fn stored_bits(cell: usize) -> u8
     ensures { result ≡ stored_bits cell }
 {
-    if answer_to_write(cell) != ACCEPTED {
-        return 0b0000_0000;
+    match answer_to_write(cell) {
+        Ok(()) => shown_bits(cell),
+        Err(_) => 0b0000_0000,
     }
-    shown_bits(cell)
 }
 
 // The power-on value of a cell; 0 where there is none.
@@ -309,12 +315,12 @@ pub fn power_on_byte(cell: usize) -> u8
 pub fn is_kept_by_reset(cell: usize) -> bool
     ensures { result ≡ kept_at cell }
 {
-    in_set(KEPT_BY_RESET, KEPT_BY_RESET_UPPER, cell)
+    KEPT_BY_RESET.contains(cell)
 }
 
 // Whether a cell is of an identity register, which shows its power-on byte whatever the cell holds.
 pub fn is_identity(cell: usize) -> bool
     ensures { result ≡ identity_at cell }
 {
-    in_set(IDENTITY, IDENTITY_UPPER, cell)
+    IDENTITY.contains(cell)
 }

@@ -4,4 +4,4 @@ use Rattle.bits.proofs.bit_of.Goals as goal
 
 pub returns : goal.returns
 unfolding bit
-returns c = rw c.number-j.ensures (low_digit _)
+returns c = rw c.number.ensures (low_digit _)

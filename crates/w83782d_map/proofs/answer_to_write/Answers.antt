@@ -1,15 +1,22 @@
+use mathlib.Core.Path.{◌∙◌}
 use borrow.Author.Rules.{rules}
-use Rattle.w83782d_map.proofs.Cells.{answer_out, answer_absent, answer_read_only, answer_accepted}
+use Rattle.bits.specs.Bits.{bit}
+use Rattle.w83782d_map.specs.Map.{rows, present_at, writable_at}
+use Rattle.w83782d_map.specs.Access.{write_answer}
+use Rattle.w83782d_map.proofs.Cells.{read_only_set, answer_absent, answer_read_only, answer_accepted}
 use Rattle.w83782d_map.proofs.answer_to_write.Goals as goal
 
-pub returns-then-cell-ge-CELLS : goal.returns-then-cell-ge-CELLS
-returns-then-cell-ge-CELLS c = search (rules, answer_out)
+pub returns-then-not-is_present : goal.returns-then-not-is_present
+returns-then-not-is_present c = search (rules, answer_absent)
 
-pub returns-then-not-in_set : goal.returns-then-not-in_set
-returns-then-not-in_set c = search (rules, answer_absent)
-
-pub returns-then-in_set : goal.returns-then-in_set
-returns-then-in_set c = search (rules, answer_read_only)
+pub returns-then-contains : goal.returns-then-contains
+unfolding write_answer present_at writable_at rows bit
+returns-then-contains c =
+    let read_only = c.contains.ensures ∙ read_only_set _ _ tt c.args.cell in
+    search (rules, answer_read_only)
 
 pub returns : goal.returns
-returns c = search (rules, answer_accepted)
+unfolding write_answer present_at writable_at rows bit
+returns c =
+    let read_only = c.contains.ensures ∙ read_only_set _ _ tt c.args.cell in
+    search (rules, answer_accepted)

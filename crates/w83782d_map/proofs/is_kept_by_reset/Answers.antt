@@ -1,9 +1,9 @@
-use borrow.Author.Rules.{rules}
-use Rattle.w83782d_map.proofs.Cells.{kept_out, kept_in}
+use mathlib.Core.Path.{◌∙◌}
+use Rattle.bits.specs.Bits.{bit}
+use Rattle.w83782d_map.specs.Map.{kept_by_reset, kept_at}
+use Rattle.w83782d_map.proofs.Cells.{kept_set}
 use Rattle.w83782d_map.proofs.is_kept_by_reset.Goals as goal
 
-pub returns-then-cell-ge-CELLS : goal.returns-then-cell-ge-CELLS
-returns-then-cell-ge-CELLS c = search (rules, kept_out)
-
 pub returns : goal.returns
-returns c = search (rules, kept_in)
+unfolding kept_at kept_by_reset bit
+returns c = c.contains.ensures ∙ kept_set _ _ tt c.args.cell

@@ -1,9 +1,9 @@
-use borrow.Author.Rules.{rules}
-use Rattle.w83782d_map.proofs.Cells.{present_out, present_in}
+use mathlib.Core.Path.{◌∙◌}
+use Rattle.bits.specs.Bits.{bit}
+use Rattle.w83782d_map.specs.Map.{rows, present_at}
+use Rattle.w83782d_map.proofs.Cells.{present_set}
 use Rattle.w83782d_map.proofs.is_present.Goals as goal
 
-pub returns-then-cell-ge-CELLS : goal.returns-then-cell-ge-CELLS
-returns-then-cell-ge-CELLS c = search (rules, present_out)
-
 pub returns : goal.returns
-returns c = search (rules, present_in)
+unfolding present_at rows bit
+returns c = c.contains.ensures ∙ present_set _ _ tt c.args.cell

@@ -12,24 +12,24 @@ use Rattle.w83l784r_map.proofs.answer_to_write.Goals as goal
 pub returns-then-not-is_present : goal.returns-then-not-is_present
 returns-then-not-is_present c = search (rules, answer_absent)
 
-pub returns-then-in_set : goal.returns-then-in_set
+pub returns-then-contains : goal.returns-then-contains
 unfolding offset_at content_at bit
-returns-then-in_set c =
+returns-then-contains c =
     let n = c.args.cell in
-    let locked = c.in_set.ensures ∙ offset_set _ _ tt n in
+    let locked = c.contains.ensures ∙ offset_set _ _ tt n in
     search (rules, answer_locked)
 
-pub returns-then-in_set-2 : goal.returns-then-in_set-2
+pub returns-then-contains-2 : goal.returns-then-contains-2
 unfolding write_answer present_at writable_at offset_at content_at rows bit
-returns-then-in_set-2 c =
+returns-then-contains-2 c =
     let n = c.args.cell in
-    let read_only = c.in_set-2.ensures ∙ read_only_set _ _ tt n in
+    let read_only = c.contains-2.ensures ∙ read_only_set _ _ tt n in
     search (rules, answer_read_only)
 
 pub returns : goal.returns
 unfolding write_answer present_at writable_at offset_at content_at rows bit
 returns c =
     let n = c.args.cell in
-    let locked = c.in_set.ensures ∙ offset_set _ _ tt n in
-    let read_only = c.in_set-2.ensures ∙ read_only_set _ _ tt n in
+    let locked = c.contains.ensures ∙ offset_set _ _ tt n in
+    let read_only = c.contains-2.ensures ∙ read_only_set _ _ tt n in
     search (rules, answer_accepted)

@@ -6,4 +6,4 @@ use Rattle.w83l784r_map.proofs.is_identity.Goals as goal
 
 pub returns : goal.returns
 unfolding identity_at content_at bit
-returns c = c.in_set.ensures ∙ identity_set _ _ tt c.args.cell
+returns c = c.contains.ensures ∙ identity_set _ _ tt c.args.cell

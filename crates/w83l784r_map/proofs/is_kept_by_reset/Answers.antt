@@ -6,4 +6,4 @@ use Rattle.w83l784r_map.proofs.is_kept_by_reset.Goals as goal
 
 pub returns : goal.returns
 unfolding kept_at content_at kept_by_reset bit
-returns c = c.in_set.ensures ∙ kept_set _ _ tt c.args.cell
+returns c = c.contains.ensures ∙ kept_set _ _ tt c.args.cell

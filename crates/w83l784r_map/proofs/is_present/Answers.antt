@@ -6,4 +6,4 @@ use Rattle.w83l784r_map.proofs.is_present.Goals as goal
 
 pub returns : goal.returns
 unfolding present_at content_at rows bit
-returns c = c.in_set.ensures ∙ present_set _ _ tt c.args.cell
+returns c = c.contains.ensures ∙ present_set _ _ tt c.args.cell

@@ -1,9 +1,8 @@
-use borrow.Author.Rules.{rules}
 use Rattle.w83l784r_map.proofs.Cells.{stored_refused, stored_shown}
 use Rattle.w83l784r_map.proofs.stored_bits.Goals as goal
 
-pub returns-then-answer_to_write-ne-ACCEPTED : goal.returns-then-answer_to_write-ne-ACCEPTED
-returns-then-answer_to_write-ne-ACCEPTED c = search (rules, stored_refused)
+pub returns-in-Ok : goal.returns-in-Ok
+returns-in-Ok c = stored_shown _ _ c.in-Ok.ensures c.shown_bits.ensures
 
-pub returns : goal.returns
-returns c = search (rules, stored_shown)
+pub returns-in-Err : goal.returns-in-Err
+returns-in-Err c = stored_refused _ _ c.in-Err.ensures

@@ -1,19 +1,24 @@
 -- Half degrees: the nine bits and their two bytes, what is out of their range, and the cases of the code.
 -- Assumes nothing.
-use Prim.Native.Nat.{ℕ, ◌*◌, ◌/◌, ◌%◌}
+use Prim.Native.Nat.{ℕ, suc, ◌*◌, ◌-◌, ◌/◌, ◌%◌, ◌<◌, ◌≤◌}
 use native.Mathlib.Nat.{mul-div_cancel}
 use native.Mathlib.Omega.{arith}
 use mathlib.Core.Path.{◌≡◌, refl, sym, ap, ◌∙◌}
-use mathlib.Core.Bool.{Bool, true, false, not, ◌||◌}
+use mathlib.Core.Bool.{Bool, true, false, cond, not, ◌||◌, ◌&&◌}
 use lib.Dec.{ltb, lit<}
 use lib.IntN.{ℤ, pos, negsuc}
-use lib.Signed.{lt_z}
+use mir.Syntax.{w8}
+use mir.Val.{to_z}
+use mir.ValLaws.{to_z_pos, to_z-neg}
+use Rattle.std.proofs.Common.{Less, Equal, Greater}
+use Rattle.std.specs.Ordering.{is_le, int_cmp}
 use borrow.Author.Tests.{ltb-true, ltb-false, lt-ltb, le-ltb}
 use Rattle.bits.specs.Bits.{choose}
-use Rattle.numbers.specs.TwosComplement.{half9, code_of, holds}
+use Rattle.numbers.specs.TwosComplement.{half8, half9, signed_of, code_of, holds}
+use Rattle.numbers.proofs.twos_complement.Complement.{low_half, upper}
 use Rattle.analog.specs.Temperature.{nine_bits, outside, half_code_of, half_answer, NineBits}
 use Rattle.analog.specs.declared.HalfCode.{HalfCode}
-use Rattle.analog.specs.declared.HalfCode.TheVariants.{Code, OutOfRange}
+use Rattle.std.specs.Prelude.{Option, Some, None}
 
 bytes : (code : ℕ) → nine_bits (code / 2) (code % 2 * 128) ≡ code
 bytes code =
@@ -37,39 +42,69 @@ unfolding outside
 beyond (pos n) = not_below n
 beyond (negsuc n) = or_none (ltb 255 n) ∙ not_below n
 
--- the tests in the code's order
-module _ (z : ℤ) where
-  pub too_cold : lt_z z (negsuc 255) ≡ true → true ≡ outside z
-  unfolding outside
-  too_cold e = simp e
+-- a number within the range's two ends, by the library's order
+le_is : (a b : ℕ) → is_le (cond (ltb a b) Less (cond (ltb b a) Greater Equal)) ≡ not (ltb b a)
+le_is a b = go (ltb a b) refl
+  where
+    go : (t : Bool) → ltb a b ≡ t → is_le (cond t Less (cond (ltb b a) Greater Equal)) ≡ not (ltb b a)
+    go true e = rw (le-ltb b a (omega (arith, ltb-true a b e)))
+    go false e = by (ltb b a)
+      where
+        by : (t : Bool) → is_le (cond t Greater Equal) ≡ not t
+        by true = refl
+        by false = refl
 
-  pub too_hot : lt_z z (negsuc 255) ≡ false → lt_z (pos 255) z ≡ outside z
-  unfolding outside
-  too_hot e = simp e
+not_not : (t : Bool) → not (not t) ≡ t
+not_not true = refl
+not_not false = refl
+
+or_true : (t : Bool) → (t && true) ≡ t
+or_true true = refl
+or_true false = refl
+
+pub within : (z : ℤ) → not (is_le (int_cmp (negsuc 255) z) && is_le (int_cmp z (pos 255))) ≡ outside z
+unfolding outside
+within (pos n) = ap not (le_is n 255) ∙ not_not (ltb 255 n)
+within (negsuc n) =
+    ap not (or_true (is_le (int_cmp (negsuc 255) (negsuc n))) ∙ le_is n 255) ∙ not_not (ltb 255 n)
+    ∙ sym (or_none (ltb 255 n))
+
+-- a byte as the machine reads it
+pub signed_byte : (n : ℕ) → n < 256 → to_z w8 n ≡ signed_of half8 n
+signed_byte n h = go (ltb n 128) refl
+  where
+    go : (t : Bool) → ltb n 128 ≡ t → to_z w8 n ≡ signed_of half8 n
+    go true e = to_z_pos w8 n (ltb-true n 128 e) ∙ low_half half8 n (ltb-true n 128 e)
+    go false e =
+        let l : 128 ≤ n = ltb-false n 128 e in
+        let d : n ≡ 256 - suc (255 - n) = omega arith in
+        ap (to_z w8) d ∙ to_z-neg w8 (255 - n) (omega arith) ∙ sym (upper half8 n l h)
 
 pub nine_bits_hold : NineBits
 nine_bits_hold = record { beyond = beyond; bytes = bytes }
 
 -- ---- the bytes of half degrees, by their cases
 module _ (z : ℤ) where
-  pub half_out : outside z ≡ true → OutOfRange ≡ half_code_of z
+  pub half_out : outside z ≡ true → None ≡ half_code_of z
   unfolding half_code_of
   half_out e = simp e
 
-  pub half_in : (r : ℕ) → outside z ≡ false → r ≡ code_of half9 z → Code (r / 2) (r % 2 * 128) ≡ half_code_of z
+  pub half_in : (r : ℕ) → outside z ≡ false → r ≡ code_of half9 z → Some (record { high = r / 2; low = r % 2 * 128 }) ≡ half_code_of z
   unfolding half_code_of
-  half_in r e q = simp e (ap (λ (n : ℕ). Code (n / 2) (n % 2 * 128)) q)
+  half_in r e q = simp e (ap (λ (n : ℕ). Some (record { high = n / 2; low = n % 2 * 128 })) q)
 
   half_answer_law : half_answer (half_code_of z) ≡ choose (outside z) 3 0
   unfolding half_code_of
   half_answer_law = go (outside z)
     where
       go : (t : Bool)
-          → half_answer (choose t OutOfRange (Code (code_of half9 z / 2) (code_of half9 z % 2 * 128))) ≡ choose t 3 0
+          → half_answer
+          (choose t None (Some (record { high = code_of half9 z / 2; low = code_of half9 z % 2 * 128 })))
+          ≡ choose t 3 0
       go true = refl
       go false = refl
 
-  pub half_answered : (r : HalfCode) → r ≡ half_code_of z → (r ≡ half_code_of z) × (half_answer r ≡ choose (outside z) 3 0)
+  pub half_answered : (r : Option HalfCode) → r ≡ half_code_of z → (r ≡ half_code_of z) × (half_answer r ≡ choose (outside z) 3 0)
   half_answered r e = (e, ap half_answer e ∙ half_answer_law)
 
   pub inside : holds half9 z ≡ true → outside z ≡ false

@@ -1,12 +1,11 @@
 -- Temperatures in two's complement (rules S-4, A-3): sensor 1 whole degrees in a byte, sensors 2 and 3 half degrees in
 -- nine bits.
-use Rattle.std.specs.Prelude.{ℕ, ◌+◌, ◌*◌, ◌/◌, ◌%◌, ◌≡◌, Bool, not, ◌||◌, ℤ, pos, negsuc}
+use Rattle.std.specs.Prelude.{ℕ, ◌+◌, ◌*◌, ◌/◌, ◌%◌, ◌≡◌, Bool, not, ◌||◌, ℤ, pos, negsuc, Option, Some, None}
 use Rattle.std.specs.Int.Signed.{lt_z}
 use Rattle.answers.specs.Answers as answers
 use Rattle.bits.specs.Bits.{choose}
 use Rattle.numbers.specs.TwosComplement.{half9, code_of, holds}
 use Rattle.analog.specs.declared.HalfCode.{HalfCode}
-use Rattle.analog.specs.declared.HalfCode.TheVariants.{Code, OutOfRange}
 
 -- S-4: a high byte, and bit 7 of the low byte
 abbrev pub nine_bits : ℕ → ℕ → ℕ
@@ -17,22 +16,23 @@ unfoldable pub outside : ℤ → Bool
 outside z = lt_z z (negsuc 255) || lt_z (pos 255) z
 
 -- the two bytes of half degrees, the other bits of the low byte 0
-unfoldable pub half_code_of : ℤ → HalfCode
-half_code_of z = choose (outside z) OutOfRange (Code (code_of half9 z / 2) (code_of half9 z % 2 * 128))
+unfoldable pub half_code_of : ℤ → Option HalfCode
+half_code_of z =
+    choose (outside z) None (Some (record { high = code_of half9 z / 2; low = code_of half9 z % 2 * 128 }))
 
 -- the answer: A-3 out of range
-abbrev pub half_answer : HalfCode → ℕ
-half_answer (Code high low) = 0
-half_answer OutOfRange = answers.bad_temperature
+abbrev pub half_answer : Option HalfCode → ℕ
+half_answer (Some code) = 0
+half_answer None = answers.bad_temperature
 
 -- the bytes of a code; refused: none, as 0
-abbrev pub half_high : HalfCode → ℕ
-half_high (Code high low) = high
-half_high OutOfRange = 0
+abbrev pub half_high : Option HalfCode → ℕ
+half_high (Some code) = code.high
+half_high None = 0
 
-abbrev pub half_low : HalfCode → ℕ
-half_low (Code high low) = low
-half_low OutOfRange = 0
+abbrev pub half_low : Option HalfCode → ℕ
+half_low (Some code) = code.low
+half_low None = 0
 
 -- what holds of nine bits
 pub record NineBits : Type 0 where

@@ -16,7 +16,7 @@ const LOWEST: i16 = -256;
 
 const HIGHEST: i16 = 255;
 
-// Bit 7 of a byte.
+// Bit 7 of a byte, and half of the whole degrees that a byte has.
 const BIT_7: u8 = 128;
 
 // The PWM byte that is always on, and all the parts of its cycle.
@@ -24,79 +24,77 @@ const FULL_DUTY: u8 = 255;
 
 const ALL_PARTS: u16 = 256;
 
-// The two bytes of a temperature in half degrees.
-#[derive(Clone, Copy)]
-pub enum HalfCode {
-    Code { high: u8, low: u8 },
-    // Answer 3: outside -256 to 255 half degrees.
-    OutOfRange,
-}
-
-// Nine bits: a byte, and bit 7 of the byte below it.
-fn nine_bits(high: u8, low: u8) -> u16
-    ensures { (result ≡ nine_bits high low) × (result < 512) }
-{
-    2 * (high as u16) + (low / BIT_7) as u16
-}
-
 // The whole degrees of a byte.
 pub fn whole_degrees(code: u8) -> i8
     ensures { (result ≡ signed_of half8 code) × TwosComplement }
 {
-    signed(Width::Eight, code as u16) as i8
+    code.cast_signed()
 }
 
 // The byte of whole degrees.
 pub fn whole_code(degrees: i8) -> u8
     ensures { result ≡ code_of half8 degrees }
 {
-    code_of(Width::Eight, degrees as i16) as u8
-}
-
-// The half degrees of two bytes.
-pub fn half_degrees(high: u8, low: u8) -> i16
-    ensures { (result ≡ signed_of half9 (nine_bits high low)) × TwosComplement × NineBits }
-{
-    signed(Width::Nine, nine_bits(high, low))
-}
-
-// Whether half degrees are outside -256 to 255.
-pub fn is_outside(halves: i16) -> bool
-    ensures { result ≡ outside halves }
-{
-    if halves < LOWEST {
-        return true;
-    }
-    HIGHEST < halves
-}
-
-// The two bytes of half degrees; refused as 3 exactly outside -256 to 255.
-pub fn half_code(halves: i16) -> HalfCode
-    ensures equation { result ≡ half_code_of halves }
-    ensures answer { half_answer result ≡ choose (outside halves) 3 0 }
-{
-    if is_outside(halves) {
-        return HalfCode::OutOfRange;
-    }
-    let code = code_of(Width::Nine, halves);
-    HalfCode::Code {
-        high: (code / 2) as u8,
-        low: (code % 2) as u8 * BIT_7,
-    }
+    degrees.cast_unsigned()
 }
 
 // The level of a byte, 0 at -128 degrees: levels compare as the degrees do.
 pub fn whole_level(code: u8) -> u8
     ensures { result ≡ level_of half8 code }
 {
-    level(Width::Eight, code as u16) as u8
+    code.wrapping_add(BIT_7)
 }
 
-// The level of two bytes, 0 at -256 half degrees.
-pub fn half_level(high: u8, low: u8) -> u16
-    ensures { result ≡ level_of half9 (nine_bits high low) }
+// The two bytes of a temperature in half degrees.
+#[derive(Clone, Copy, PartialEq, Eq, Debug)]
+pub struct HalfCode {
+    pub high: u8,
+    pub low: u8,
+}
+
+impl HalfCode {
+    // Its nine bits: the high byte, and bit 7 of the low one.
+    fn nine_bits(self) -> u16
+        ensures { (result ≡ nine_bits self.high self.low) × (result < 512) }
+    {
+        2 * (self.high as u16) + (self.low / BIT_7) as u16
+    }
+
+    // Its half degrees.
+    pub fn degrees(self) -> i16
+        ensures { (result ≡ signed_of half9 (nine_bits self.high self.low)) × TwosComplement × NineBits }
+    {
+        signed(Width::Nine, self.nine_bits())
+    }
+
+    // Its level, 0 at -256 half degrees: levels compare as the half degrees do.
+    pub fn level(self) -> u16
+        ensures { result ≡ level_of half9 (nine_bits self.high self.low) }
+    {
+        level(Width::Nine, self.nine_bits())
+    }
+}
+
+// Whether half degrees are outside -256 to 255.
+pub fn is_outside(halves: i16) -> bool
+    ensures { result ≡ outside halves }
 {
-    level(Width::Nine, nine_bits(high, low))
+    !(LOWEST..=HIGHEST).contains(&halves)
+}
+
+// The two bytes of half degrees; refused as 3, by None, exactly outside -256 to 255.
+pub fn half_code(halves: i16) -> Option<HalfCode>
+    ensures equation { result ≡ half_code_of halves }
+    ensures answer { half_answer result ≡ choose (outside halves) 3 0 }
+{
+    if is_outside(halves) {
+        return None;
+    }
+    let code = code_of(Width::Nine, halves);
+    Some(HalfCode {
+        high: (code / 2) as u8,
+        low: (code % 2) as u8 * BIT_7,
+    })
 }
 
 // How many of 256 parts a PWM byte is on.

@@ -1,5 +1,5 @@
 // Voltages: the millivolts of a code on a channel, by the resistors of the negative rails.
-ghost use Rattle.std.specs.Prelude.{◌≡◌, ◌^◌, ◌<◌, pos, ◌-ℤ◌};
+ghost use Rattle.std.specs.Prelude.{◌≡◌, ◌^◌, ◌<◌, pos, ◌-ℤ◌, ◌&&◌};
 ghost use Rattle.analog.specs.Readings.{nearest_z, is_resistor, rail_of, millivolts_of, VoltageAnswers};
 
 use numbers::rounding::rounded;
@@ -21,14 +21,11 @@ const PLUS_12: u32 = 304;
 
 const PLUS_12_OVER: u32 = 5;
 
-// What reading a voltage answers.
-#[derive(Clone, Copy)]
-pub enum Reading {
-    Millivolts(i32),
-    // Answer 7: no such channel, or a resistor out of range.
-    Refused,
-    // Answer 8: a slice that is not the registers'.
-    WrongLength,
+// The resistors of a negative rail's divider, in kilo-ohm.
+#[derive(Clone, Copy, PartialEq, Eq, Debug)]
+pub struct Resistors {
+    pub r5: u32,
+    pub r6: u32,
 }
 
 // (a - b) / d, nearest, halves away from zero.
@@ -46,36 +43,40 @@ fn quotient(a: u32, b: u32, d: u32) -> i32
 fn is_resistor(resistor: u32) -> bool
     ensures { result ≡ is_resistor resistor }
 {
-    if resistor < 1 {
-        return false;
-    }
-    resistor <= MOST_KILO_OHM
+    (1..=MOST_KILO_OHM).contains(&resistor)
 }
 
-// The reading of -12 or -5, by the resistors of its divider.
-fn rail(code: u8, r5: u32, r6: u32) -> Reading
-    ensures { result ≡ rail_of code r5 r6 }
+impl Resistors {
+    // Whether both are a whole 1 to 1,000 kilo-ohm.
+    fn are_in_range(self) -> bool
+        ensures { result ≡ (is_resistor self.r5 && is_resistor self.r6) }
+    {
+        is_resistor(self.r5) && is_resistor(self.r6)
+    }
+}
+
+// The millivolts of -12 or -5; None where a resistor is out of range.
+fn rail(code: u8, resistors: Resistors) -> Option<i32>
+    ensures { result ≡ rail_of code resistors.r5 resistors.r6 }
 {
-    if !is_resistor(r5) {
-        return Reading::Refused;
+    if !resistors.are_in_range() {
+        return None;
     }
-    if !is_resistor(r6) {
-        return Reading::Refused;
-    }
-    Reading::Millivolts(quotient(STEP * (code as u32) * (r5 + r6), REFERENCE * r5, r6))
+    let Resistors { r5, r6 } = resistors;
+    Some(quotient(STEP * (code as u32) * (r5 + r6), REFERENCE * r5, r6))
 }
 
 // The millivolts of a code on a channel: VCOREA, VINR0, +3.3, +5, +12, -12, -5 from 0.
-// The resistors count for the last two only.
-pub fn millivolts(channel: u8, code: u8, r5: u32, r6: u32) -> Reading
-    ensures { (result ≡ millivolts_of channel code r5 r6) × VoltageAnswers }
+// The resistors count for the last two only. None: no such channel, or a resistor out of range.
+pub fn millivolts(channel: u8, code: u8, resistors: Resistors) -> Option<i32>
+    ensures { (result ≡ millivolts_of channel code resistors.r5 resistors.r6) × VoltageAnswers }
 {
     let c = code as u32;
     match channel {
-        0..=2 => Reading::Millivolts(quotient(STEP * c, 0, 1)),
-        3 => Reading::Millivolts(quotient(PLUS_5 * c, 0, PLUS_5_OVER)),
-        4 => Reading::Millivolts(quotient(PLUS_12 * c, 0, PLUS_12_OVER)),
-        5..=6 => rail(code, r5, r6),
-        _ => Reading::Refused,
+        0..=2 => Some(quotient(STEP * c, 0, 1)),
+        3 => Some(quotient(PLUS_5 * c, 0, PLUS_5_OVER)),
+        4 => Some(quotient(PLUS_12 * c, 0, PLUS_12_OVER)),
+        5..=6 => rail(code, resistors),
+        _ => None,
     }
 }

@@ -9,7 +9,7 @@ ghost use Rattle.limits.specs.Limits.{half_level_at};
 ghost use Rattle.w83782d_conditions.specs.Conditions.{is_outside, is_slow, mode_if, output_mode, comparison_of};
 ghost use Rattle.w83782d_conditions.specs.ConditionParts.{compared_in};
 
-use analog::{half_level, whole_level};
+use analog::{HalfCode, whole_level};
 use bits::{Bit, is_on, pack};
 use fan::{Divided, rings};
 use sensor::Mode;
@@ -42,7 +42,11 @@ fn half_level_at(s: &[u8], c: usize) -> u16
     requires { (length s.now ≡ cells) × (c + 1 < cells) }
     ensures { result ≡ half_level_at s.now c }
 {
-    half_level(s[c], s[c + 1])
+    HalfCode {
+        high: s[c],
+        low: s[c + 1],
+    }
+    .level()
 }
 
 // ---- The bits of 41h and 59h, and of 42h and 5Ah: rails and fans, as the real-time bits show them

@@ -1,17 +1,16 @@
--- The machine reads back the number itself, and the two tests are the definition's.
+-- The range ends where the definition does, and the machine reads back the number itself.
 -- Assumes nothing.
 use mathlib.Core.Path.{ap, ◌∙◌}
+use mathlib.Core.Bool.{not}
 use mir.Syntax.{w16}
 use mir.ValLaws.{to_z-of_z}
 use Rattle.analog.specs.Temperature.{outside}
 use Rattle.numbers.proofs.twos_complement.Turned.{read}
-use Rattle.analog.proofs.Halves.{too_cold, too_hot}
+use Rattle.analog.proofs.Halves.{within}
 use Rattle.analog.proofs.is_outside.Goals as goal
-
-pub returns-then-halves-lt-LOWEST : goal.returns-then-halves-lt-LOWEST
-returns-then-halves-lt-LOWEST c =
-    too_cold (read w16 c.args.halves) c.if-halves-lt-LOWEST.true ∙ ap outside (to_z-of_z w16 c.args.halves c.ranges.halves)
 
 pub returns : goal.returns
 returns c =
-    too_hot (read w16 c.args.halves) c.if-halves-lt-LOWEST.false ∙ ap outside (to_z-of_z w16 c.args.halves c.ranges.halves)
+    let e = c.new.ensures in
+    let v = rw (e.start, e.end, e.exhausted) at c.contains.ensures.value in
+    ap not v ∙ within (read w16 c.args.halves) ∙ ap outside (to_z-of_z w16 c.args.halves c.ranges.halves)

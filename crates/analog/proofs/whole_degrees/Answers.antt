@@ -1,14 +1,16 @@
--- What `signed` ensures at the half range of a byte; the number fits a signed byte.
+-- The machine reads a byte as the definition does.
 -- Assumes nothing.
 use mathlib.Core.Path.{◌∙◌}
 use mir.Syntax.{w8}
-use mir.Val.{SFits}
+use mir.ValLaws.{to_z-of_z}
 use borrow.Author.Rules.{rules}
-use Rattle.numbers.proofs.twos_complement.Complement.{byte_fits, kept_byte}
+use Rattle.numbers.proofs.twos_complement.Complement.{twos_complement_holds}
+use Rattle.analog.proofs.Halves.{signed_byte}
 use Rattle.analog.proofs.whole_degrees.Goals as goal
 
-fit : (c : goal.After-signed) → SFits w8 c.signed.result
-fit c = byte_fits c.args.code c.signed.result (search rules) c.signed.ensures.0
-
 pub returns : goal.returns
-returns c = (kept_byte c.signed.result (fit c) ∙ c.signed.ensures.0, c.signed.ensures.1)
+returns c = (
+  to_z-of_z w8 c.cast_signed.result (record { sfits = c.cast_signed.type_inv }) ∙ c.cast_signed.ensures
+      ∙ signed_byte c.args.code (search rules),
+  twos_complement_holds,
+)

@@ -5,7 +5,7 @@ use mir.Syntax.{w16}
 use mir.ValLaws.{to_z-of_z}
 use Rattle.numbers.specs.TwosComplement.{signed_of, half9}
 use Rattle.analog.proofs.Halves.{nine_bits_hold}
-use Rattle.analog.proofs.half_degrees.Goals as goal
+use Rattle.analog.proofs.HalfCode.degrees.Goals as goal
 
 pub returns : goal.returns
 returns c = (

@@ -5,7 +5,7 @@ ghost use Rattle.std.specs.Prelude.{◌≡◌};
 ghost use Rattle.sensor.specs.Sensor.{armed, released_of, is_hot, mark_if, status_of, output_of};
 
 // What a sensor waits for: armed, to rise above its over limit; hot, to fall below its hysteresis.
-#[derive(Clone, Copy)]
+#[derive(Clone, Copy, PartialEq, Eq, Debug)]
 pub enum Mark {
     Armed,
     Hot,
@@ -13,7 +13,7 @@ pub enum Mark {
 
 // How a sensor's status or OVT output goes by its mark. Interrupt: at each crossing that the mark waits for, one step a
 // sample; for the status this is the two-times mode.
-#[derive(Clone, Copy)]
+#[derive(Clone, Copy, PartialEq, Eq, Debug)]
 pub enum Mode {
     Comparator,
     Interrupt,
@@ -59,14 +59,11 @@ impl Remote {
     pub fn released(self) -> Self
         ensures { result ≡ released_of self }
     {
-        let status = self.status;
-        let old = self.output;
-        let mark = old.mark;
         let output = Output {
-            mark,
             asserted: false,
+            ..self.output
         };
-        Remote { status, output }
+        Remote { output, ..self }
     }
 }
 
@@ -74,20 +71,14 @@ impl Remote {
 pub fn is_hot(mark: Mark) -> bool
     ensures { result ≡ is_hot mark }
 {
-    match mark {
-        Mark::Armed => false,
-        Mark::Hot => true,
-    }
+    mark == Mark::Hot
 }
 
 // The mark that is hot or armed; in comparator mode hot is above.
 pub fn mark_if(hot: bool) -> Mark
     ensures { result ≡ mark_if hot }
 {
-    if hot {
-        return Mark::Hot;
-    }
-    Mark::Armed
+    if hot { Mark::Hot } else { Mark::Armed }
 }
 
 // The status step of one sensor at a sample, above its over limit or not, below its hysteresis or
@@ -96,36 +87,22 @@ pub fn mark_if(hot: bool) -> Mark
 pub fn status_step(mode: Mode, mark: Mark, above: bool, below: bool) -> Status
     ensures { result ≡ status_of mode mark above below }
 {
-    match mode {
-        Mode::Comparator => Status {
+    match (mode, mark) {
+        (Mode::Comparator, _) => Status {
             mark: mark_if(above),
             latched: above,
         },
-        Mode::Interrupt => match mark {
-            Mark::Armed => {
-                if above {
-                    return Status {
-                        mark: Mark::Hot,
-                        latched: true,
-                    };
-                }
-                Status {
-                    mark: Mark::Armed,
-                    latched: false,
-                }
-            }
-            Mark::Hot => {
-                if below {
-                    return Status {
-                        mark: Mark::Armed,
-                        latched: true,
-                    };
-                }
-                Status {
-                    mark: Mark::Hot,
-                    latched: false,
-                }
-            }
+        (Mode::Interrupt, Mark::Armed) if above => Status {
+            mark: Mark::Hot,
+            latched: true,
+        },
+        (Mode::Interrupt, Mark::Hot) if below => Status {
+            mark: Mark::Armed,
+            latched: true,
+        },
+        (Mode::Interrupt, _) => Status {
+            mark,
+            latched: false,
         },
     }
 }
@@ -134,48 +111,19 @@ pub fn status_step(mode: Mode, mark: Mark, above: bool, below: bool) -> Status
 pub fn output_step(mode: Mode, output: Output, above: bool, below: bool) -> Output
     ensures { result ≡ output_of mode output above below }
 {
-    match mode {
-        Mode::Comparator => {
-            let mark = mark_if(above);
-            if above {
-                return Output {
-                    mark,
-                    asserted: true,
-                };
-            }
-            if below {
-                return Output {
-                    mark,
-                    asserted: false,
-                };
-            }
-            Output {
-                mark,
-                asserted: output.asserted,
-            }
-        }
-        Mode::Interrupt => {
-            let mark = output.mark;
-            match mark {
-                Mark::Armed => {
-                    if above {
-                        return Output {
-                            mark: Mark::Hot,
-                            asserted: true,
-                        };
-                    }
-                    output
-                }
-                Mark::Hot => {
-                    if below {
-                        return Output {
-                            mark: Mark::Armed,
-                            asserted: true,
-                        };
-                    }
-                    output
-                }
-            }
-        }
+    match (mode, output.mark) {
+        (Mode::Comparator, _) => Output {
+            mark: mark_if(above),
+            asserted: above || (!below && output.asserted),
+        },
+        (Mode::Interrupt, Mark::Armed) if above => Output {
+            mark: Mark::Hot,
+            asserted: true,
+        },
+        (Mode::Interrupt, Mark::Hot) if below => Output {
+            mark: Mark::Armed,
+            asserted: true,
+        },
+        (Mode::Interrupt, _) => output,
     }
 }

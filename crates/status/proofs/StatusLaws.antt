@@ -126,9 +126,6 @@ all_counted = refl
 pub count_few : (x z : ℕ) → x < 2 ^ 8 → z < 2 ^ 8 → ones x + ones z ≤ 16
 count_few x z h k = omega (arith, ones-le 8 x h, ones-le 8 z k)
 
-pub count_fits : (x z : ℕ) → x < 2 ^ 8 → z < 2 ^ 8 → ones x + ones z < 2 ^ 32
-count_fits x z h k = omega (arith, count_few x z h k)
-
 -- by its digits, from the lowest up
 ones_zero : ones 0 ≡ 0
 unfolding ones ones_in

@@ -27,7 +27,7 @@ pub fn alarm_count(first: u8, second: u8) -> u32
     ensures few { result ≤ 16 }
     ensures claims { CountsSetBits }
 {
-    u8::count_ones(first) + u8::count_ones(second)
+    first.count_ones() + second.count_ones()
 }
 
 // What a byte of conditions latches where some latch on crossings: the conditions of `crossing` where they differ from the

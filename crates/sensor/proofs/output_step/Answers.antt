@@ -5,30 +5,30 @@ use Rattle.sensor.proofs.output_step.Goals as goal
 
 pub returns-then-above : goal.returns-then-above
 unfolding output_of
-returns-then-above c = simp (c.in-Comparator.is, c.mark_if-mark.ensures, c.if-above.true)
+returns-then-above c = simp (c.in-Comparator-default.is-0, c.mark_if.ensures, c.if-above.true)
 
-pub returns-then-below : goal.returns-then-below
+pub returns-then-not-below : goal.returns-then-not-below
 unfolding output_of
-returns-then-below c =
-    simp (c.in-Comparator.is, c.mark_if-mark.ensures, c.if-above.false, c.if-below.true)
+returns-then-not-below c =
+    simp (c.in-Comparator-default.is-0, c.mark_if.ensures, c.if-above.false, c.if-not-below.true)
 
-pub returns-then-above-2 : goal.returns-then-above-2
+pub returns-else-not-below : goal.returns-else-not-below
 unfolding output_of
-returns-then-above-2 c = simp (c.in-Interrupt.is, c.in-Armed.is, c.if-above-2.true)
+returns-else-not-below c =
+    simp (c.in-Comparator-default.is-0, c.mark_if.ensures, c.if-above.false, c.if-not-below.false)
 
-pub returns-then-below-2 : goal.returns-then-below-2
+pub returns-in-Interrupt-Armed : goal.returns-in-Interrupt-Armed
 unfolding output_of
-returns-then-below-2 c = simp (c.in-Interrupt.is, c.in-Hot.is, c.if-below-2.true)
+returns-in-Interrupt-Armed c = simp (c.in-Interrupt-Armed.is-0, c.in-Interrupt-Armed.is-1, c.if-above-2.true)
 
-pub returns-else-below : goal.returns-else-below
+pub returns-in-Interrupt-Hot : goal.returns-in-Interrupt-Hot
 unfolding output_of
-returns-else-below c =
-    simp (c.in-Comparator.is, c.mark_if-mark.ensures, c.if-above.false, c.if-below.false)
+returns-in-Interrupt-Hot c = simp (c.in-Interrupt-Hot.is-0, c.in-Interrupt-Hot.is-1, c.if-below.true)
 
-pub returns-else-above-2 : goal.returns-else-above-2
+pub returns-in-Interrupt-default : goal.returns-in-Interrupt-default
 unfolding output_of
-returns-else-above-2 c = simp (c.in-Interrupt.is, c.in-Armed.is, c.if-above-2.false)
+returns-in-Interrupt-default c = simp (c.in-Interrupt-Armed.is-0, c.in-Interrupt-Armed.is-1, c.if-above-2.false)
 
-pub returns-else-below-2 : goal.returns-else-below-2
+pub returns-in-Interrupt-default-2 : goal.returns-in-Interrupt-default-2
 unfolding output_of
-returns-else-below-2 c = simp (c.in-Interrupt.is, c.in-Hot.is, c.if-below-2.false)
+returns-in-Interrupt-default-2 c = simp (c.in-Interrupt-Hot.is-0, c.in-Interrupt-Hot.is-1, c.if-below.false)

@@ -3,22 +3,22 @@
 use Rattle.sensor.specs.Sensor.{status_of}
 use Rattle.sensor.proofs.status_step.Goals as goal
 
-pub returns-then-above : goal.returns-then-above
+pub returns-in-Comparator-default : goal.returns-in-Comparator-default
 unfolding status_of
-returns-then-above c = simp (c.in-Interrupt.is, c.in-Armed.is, c.if-above.true)
+returns-in-Comparator-default c = simp (c.in-Comparator-default.is-0, c.mark_if.ensures)
 
-pub returns-then-below : goal.returns-then-below
+pub returns-in-Interrupt-Armed : goal.returns-in-Interrupt-Armed
 unfolding status_of
-returns-then-below c = simp (c.in-Interrupt.is, c.in-Hot.is, c.if-below.true)
+returns-in-Interrupt-Armed c = simp (c.in-Interrupt-Armed.is-0, c.in-Interrupt-Armed.is-1, c.if-above.true)
 
-pub returns-in-Comparator : goal.returns-in-Comparator
+pub returns-in-Interrupt-Hot : goal.returns-in-Interrupt-Hot
 unfolding status_of
-returns-in-Comparator c = simp (c.in-Comparator.is, c.mark_if.ensures)
+returns-in-Interrupt-Hot c = simp (c.in-Interrupt-Hot.is-0, c.in-Interrupt-Hot.is-1, c.if-below.true)
 
-pub returns-else-above : goal.returns-else-above
+pub returns-in-Interrupt-default : goal.returns-in-Interrupt-default
 unfolding status_of
-returns-else-above c = simp (c.in-Interrupt.is, c.in-Armed.is, c.if-above.false)
+returns-in-Interrupt-default c = simp (c.in-Interrupt-Armed.is-0, c.in-Interrupt-Armed.is-1, c.if-above.false)
 
-pub returns-else-below : goal.returns-else-below
+pub returns-in-Interrupt-default-2 : goal.returns-in-Interrupt-default-2
 unfolding status_of
-returns-else-below c = simp (c.in-Interrupt.is, c.in-Hot.is, c.if-below.false)
+returns-in-Interrupt-default-2 c = simp (c.in-Interrupt-Hot.is-0, c.in-Interrupt-Hot.is-1, c.if-below.false)

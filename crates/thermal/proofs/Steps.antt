@@ -1,7 +1,7 @@
 -- One-time status and ACPI output: what is claimed of them, and the cases of the code, by the mode and the mark.
 -- Assumes nothing.
 use mathlib.Core.Path.{◌≡◌, refl}
-use mathlib.Core.Bool.{Bool, true, false}
+use mathlib.Core.Bool.{Bool, true, false, not, ◌&&◌}
 use mathlib.Core.Logic.{◌↔◌}
 use Rattle.sensor.specs.declared.Mark.{Mark}
 use Rattle.sensor.specs.declared.Mark.TheVariants.{Armed, Hot}
@@ -9,7 +9,7 @@ use Rattle.sensor.specs.declared.Mode.{Mode}
 use Rattle.sensor.specs.declared.Mode.TheVariants.{Interrupt}
 use Rattle.sensor.specs.declared.Status.{Status}
 use Rattle.sensor.specs.declared.Output.{Output}
-use Rattle.sensor.specs.Sensor.{status, output, mark_if, status_of, output_of}
+use Rattle.sensor.specs.Sensor.{status, output, is_hot, mark_if, status_of, output_of}
 use Rattle.thermal.specs.declared.StatusMode.{StatusMode}
 use Rattle.thermal.specs.declared.StatusMode.TheVariants as status_mode
 use Rattle.thermal.specs.declared.OutputMode.{OutputMode}
@@ -43,15 +43,10 @@ module _ (mode : StatusMode) (m : Mark) (above below : Bool) (r : Status) where
   unfolding status_by
   plain_status p e s = rw e s
 
-  pub armed_status : mode ≡ status_mode.OneTime → m ≡ Armed → r ≡ status_of Interrupt m above below
-      → status r.mark above ≡ status_by mode m above below
+  pub one_time_case : (latched : Bool) → mode ≡ status_mode.OneTime → r ≡ status_of Interrupt m above below
+      → latched ≡ (not (is_hot m) && above) → status r.mark latched ≡ status_by mode m above below
   unfolding status_by
-  armed_status e a s = rw (e, s, a) refl
-
-  pub hot_status : mode ≡ status_mode.OneTime → m ≡ Hot → r ≡ status_of Interrupt m above below
-      → status r.mark false ≡ status_by mode m above below
-  unfolding status_by
-  hot_status e a s = rw (e, s, a) refl
+  one_time_case latched e s l = rw (e, s, l) refl
 
 module _ (mode : OutputMode) (o : Output) (above below moved : Bool) where
   pub plain_output : (p : Mode) (r : Output) → mode ≡ output_mode.Plain p → r ≡ output_of p o above below

@@ -7,12 +7,7 @@ ghost use Rattle.thermal.specs.Offset.{held_sum, HeldSum};
 ghost use Rattle.thermal.specs.Quotient.{quotient_by, has_moved, QuotientDown, MovedExactly};
 ghost use Rattle.thermal.specs.Modes.{status_by, output_by, OneTimeStatus, AcpiOutput};
 
-use sensor::{Mark, Mode, Output, Status, mark_if, output_step, status_step};
-
-// The degrees that a signed byte holds.
-const LOWEST: i16 = -128;
-
-const HIGHEST: i16 = 127;
+use sensor::{Mark, Mode, Output, Status, is_hot, mark_if, output_step, status_step};
 
 // How a sensor's status goes by its mark. One-time: the steps of the two-times mode, of which only the rise latches.
 #[derive(Clone, Copy)]
@@ -34,14 +29,7 @@ pub fn held_sum(sample: i8, offset: i8) -> i8
     ensures equation { result ≡ held_sum sample offset }
     ensures claims { HeldSum }
 {
-    let sum = sample as i16 + offset as i16;
-    if sum < LOWEST {
-        return LOWEST as i8;
-    }
-    if HIGHEST < sum {
-        return HIGHEST as i8;
-    }
-    sum as i8
+    sample.saturating_add(offset)
 }
 
 // Degrees divided by a step, rounded down; 0 for step 0. Below 0 the degrees and the quotient are counted down from -1,
@@ -65,10 +53,7 @@ pub fn has_moved(step: u8, kept: i8, latest: i8) -> bool
     ensures equation { result ≡ has_moved step kept latest }
     ensures claims { MovedExactly }
 {
-    if step == 0 {
-        return false;
-    }
-    kept != latest
+    step != 0 && kept != latest
 }
 
 // The status step of one sensor at a sample, above its over limit or not, below its hysteresis or not.
@@ -78,20 +63,10 @@ pub fn status_by(mode: StatusMode, mark: Mark, above: bool, below: bool) -> Stat
 {
     match mode {
         StatusMode::Plain(plain) => status_step(plain, mark, above, below),
-        StatusMode::OneTime => {
-            let step = status_step(Mode::Interrupt, mark, above, below);
-            let next = step.mark;
-            match mark {
-                Mark::Armed => Status {
-                    mark: next,
-                    latched: above,
-                },
-                Mark::Hot => Status {
-                    mark: next,
-                    latched: false,
-                },
-            }
-        }
+        StatusMode::OneTime => Status {
+            latched: !is_hot(mark) && above,
+            ..status_step(Mode::Interrupt, mark, above, below)
+        },
     }
 }
 

@@ -4,8 +4,8 @@ use borrow.Author.Rules.{rules}
 use Rattle.thermal.proofs.Moves.{stays, moves, moved_exactly}
 use Rattle.thermal.proofs.has_moved.Goals as goal
 
-pub returns-then-step-eq0 : goal.returns-then-step-eq0
-returns-then-step-eq0 c = record { equation = search (rules, stays); claims = moved_exactly }
+pub returns-then-step-ne0 : goal.returns-then-step-ne0
+returns-then-step-ne0 c = record { equation = search (rules, moves); claims = moved_exactly }
 
-pub returns : goal.returns
-returns c = record { equation = search (rules, moves); claims = moved_exactly }
+pub returns-else-step-ne0 : goal.returns-else-step-ne0
+returns-else-step-ne0 c = record { equation = search (rules, stays); claims = moved_exactly }

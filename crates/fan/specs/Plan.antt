@@ -2,8 +2,13 @@
 use Rattle.std.specs.Prelude.{ℕ, ◌+◌, ◌*◌, ◌/◌, ◌≤◌, ◌≡◌, Bool, true, ◌||◌, eqb, leb, ltb, Option, Some, None}
 use Rattle.answers.specs.Answers as answers
 use Rattle.bits.specs.Bits.{choose}
+use Rattle.fan.specs.declared.Divisor.{Divisor}
 use Rattle.fan.specs.declared.Plan.{Plan}
 use Rattle.fan.specs.Count.{per_minute, value_of, IsDivisor, stored_of, count_of, over_limit}
+
+-- the plan of a divisor and a limit
+abbrev pub some_plan : Divisor → ℕ → Option Plan
+some_plan d l = Some (record { divisor = d; limit = l })
 
 -- the answer: a plan is accepted, none is A-6
 abbrev pub plan_answer : Option Plan → ℕ

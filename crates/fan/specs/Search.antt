@@ -1,12 +1,12 @@
 -- The plan, computed. `Plan` says what a plan is and that there is one only; this is how
 -- it is found, so that figures compute.
-use Rattle.std.specs.Prelude.{ℕ, zero, suc, ◌-◌, ◌*◌, ◌/◌, min, ltb, Option, Some, None}
+use Rattle.std.specs.Prelude.{ℕ, zero, suc, ◌-◌, ◌*◌, ◌/◌, min, ltb, Option, None}
 use Rattle.bits.specs.Bits.{choose}
 use Rattle.fan.specs.declared.planner.Choice.{Choice}
 use Rattle.fan.specs.declared.Plan.{Plan}
 use Rattle.fan.specs.declared.Divisor.{Divisor}
 use Rattle.fan.specs.Count.{per_minute, value_of, from_bits}
-use Rattle.fan.specs.Plan.{is_no_speed}
+use Rattle.fan.specs.Plan.{some_plan, is_no_speed}
 
 -- a divisor with the most counts of it that stay within k, at most 255
 abbrev pub choice_at : ℕ → Divisor → Choice
@@ -27,7 +27,7 @@ best_to k (suc e) = better k (best_to k e) (from_bits (suc e))
 
 -- a limit is one below the counts
 abbrev pub planned_by : Choice → Option Plan
-planned_by c = Some (record { divisor = c.divisor; limit = c.counts - 1 })
+planned_by c = some_plan c.divisor (c.counts - 1)
 
 -- none for 0 and above 1,350,000, and otherwise the best of the eight
 unfoldable pub plan_of : ℕ → Option Plan

@@ -1,5 +1,6 @@
 -- A plan set: its limit and its divisor's bits are in the registers, and what is another fan's or nobody's stays.
 -- Each law is over where a fan's settings lie. Assumes nothing.
+use Rattle.std.specs.Prelude.{Option, Some, None}
 use mathlib.Core.Path.{◌≡◌, refl, sym, ap, ap₂, subst, ◌∙◌}
 use mathlib.Core.Bool.{Bool, true, false, not, ◌||◌, ◌&&◌}
 use mathlib.Core.List.{List, [], ◌∷◌}
@@ -26,10 +27,9 @@ use Rattle.fan.specs.Divisors.{divisor_at}
 use Rattle.fan.specs.declared.Divisor.{Divisor}
 use Rattle.fan.specs.declared.Divisor.TheVariants.{By1, By128}
 use Rattle.fan.proofs.Divisors.{exponent_lt, from_exponent, exponent_of_bits}
-use Rattle.fan.specs.Plan.{IsPlan, IsPlanned, plan_answer, answer_for}
+use Rattle.fan.specs.Plan.{some_plan, IsPlan, IsPlanned, plan_answer, answer_for}
 use Rattle.fan.specs.Search.{plan_of}
-use Rattle.fan.specs.declared.planner.Planned.{Planned}
-use Rattle.fan.specs.declared.planner.Planned.TheVariants.{Plan, Refused}
+use Rattle.fan.specs.declared.Plan.{Plan}
 use Rattle.fan.proofs.planner.Planning.{plan_of_is}
 use Rattle.fan_settings.specs.Settings.{Fan, fan_at, limit_in, divisor_in, settings}
 use Rattle.fan_settings.specs.Settings.{set_answer, has_cell, is_sound, is_apart}
@@ -224,10 +224,10 @@ module _ (rs : List ℕ) (f : Fan) (d : Divisor) (l : ℕ) where
         ∙ mod-eq_of_lt (exponent_lt d)
 
 -- ---- the plan
-pub is_plan_law : (w : ℕ) (d : Divisor) (l : ℕ) → plan_of w ≡ Plan d l → IsPlan w (value_of d) l
+pub is_plan_law : (w : ℕ) (d : Divisor) (l : ℕ) → plan_of w ≡ some_plan d l → IsPlan w (value_of d) l
 is_plan_law w d l e = (subst (IsPlanned w) e (plan_of_is w)).plan refl
 
-pub plan_set : (rs : List ℕ) (f : Fan) (w : ℕ) (d : Divisor) (l : ℕ) → Sound (length rs) f → plan_of w ≡ Plan d l
+pub plan_set : (rs : List ℕ) (f : Fan) (w : ℕ) (d : Divisor) (l : ℕ) → Sound (length rs) f → plan_of w ≡ some_plan d l
     → PlanSet rs (put rs f d l) f w
 plan_set rs f w d l s e =
     record {
@@ -246,7 +246,7 @@ pub record Accepted (n f w : ℕ) : Type 0 where
   pub high : f ≤ n
   pub divisor : Divisor
   pub limit : ℕ
-  pub planned : plan_of w ≡ Plan divisor limit
+  pub planned : plan_of w ≡ some_plan divisor limit
 
 pub accepted : (n f w : ℕ) → set_answer n f w ≡ 0 → Accepted n f w
 accepted n f w =
@@ -254,6 +254,6 @@ accepted n f w =
     (λ e z. by (plan_of w) refl ((plan_of_is w).answer ∙ z) (ltb-false f 1 (or_left (ltb f 1) (ltb n f) e))
     (ltb-false n f (or_right (ltb f 1) (ltb n f) e)))
   where
-    by : (p : Planned) → plan_of w ≡ p → plan_answer (plan_of w) ≡ 0 → 1 ≤ f → f ≤ n → Accepted n f w
-    by (Plan d l) e z h k = record { low = h; high = k; divisor = d; limit = l; planned = e }
-    by Refused e z h k = let six : ◌≡◌ {A = ℕ} 6 0 = sym (ap plan_answer e) ∙ z in absurd (omega arith)
+    by : (p : Option Plan) → plan_of w ≡ p → plan_answer (plan_of w) ≡ 0 → 1 ≤ f → f ≤ n → Accepted n f w
+    by (Some p) e z h k = record { low = h; high = k; divisor = p.divisor; limit = p.limit; planned = e }
+    by None e z h k = let six : ◌≡◌ {A = ℕ} 6 0 = sym (ap plan_answer e) ∙ z in absurd (omega arith)

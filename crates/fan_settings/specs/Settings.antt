@@ -1,5 +1,5 @@
 -- A fan's settings in the registers, wherever they are, and setting a plan (rule P-5).
-use Rattle.std.specs.Prelude.{Bool, false, not, ◌&&◌, ◌||◌, List, [], ◌∷◌, ℕ, eqb, ltb, length, get_or}
+use Rattle.std.specs.Prelude.{Bool, false, not, ◌&&◌, ◌||◌, List, [], ◌∷◌, ℕ, eqb, ltb, length, get_or, Option, Some, None}
 use Rattle.answers.specs.Answers as answers
 use Rattle.bits.specs.Bits.{choose, is_beyond, Change, change, changes}
 use Rattle.bits.specs.Fields.{digits_of, distinct, apart, inside}
@@ -8,8 +8,7 @@ use Rattle.fan.specs.Count.{exponent_of}
 use Rattle.fan.specs.Divisors.{divisor_at}
 use Rattle.fan.specs.declared.Divisor.{Divisor}
 use Rattle.fan.specs.Plan.{answer_for}
-use Rattle.fan.specs.declared.planner.Planned.{Planned}
-use Rattle.fan.specs.declared.planner.Planned.TheVariants.{Plan, Refused}
+use Rattle.fan.specs.declared.Plan.{Plan}
 
 -- a fan: the cell of its limit, and where its divisor's three bits lie, lowest first
 pub record Fan : Type 0 where
@@ -30,9 +29,9 @@ divisor_in rs f = divisor_at rs f.places
 abbrev pub settings : Fan → Divisor → ℕ → List Change
 settings f d l = change f.limit 0xFF l ∷ digits_of f.places (exponent_of d)
 
-abbrev pub planned_registers : List ℕ → Fan → Planned → List ℕ
-planned_registers rs f (Plan d l) = changes rs (settings f d l)
-planned_registers rs f Refused = rs
+abbrev pub planned_registers : List ℕ → Fan → Option Plan → List ℕ
+planned_registers rs f (Some p) = changes rs (settings f p.divisor p.limit)
+planned_registers rs f None = rs
 
 -- of n fans: A-7 before A-6
 abbrev pub set_answer : ℕ → ℕ → ℕ → ℕ

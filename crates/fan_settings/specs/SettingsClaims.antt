@@ -4,16 +4,15 @@ use Rattle.bits.specs.Bits.{bit}
 use Rattle.bits.specs.Fields.{is_in}
 use Rattle.fan.specs.Count.{value_of}
 use Rattle.fan.specs.declared.Divisor.{Divisor}
-use Rattle.fan.specs.Plan.{IsPlan}
+use Rattle.fan.specs.Plan.{some_plan, IsPlan}
 use Rattle.fan.specs.Search.{plan_of}
-use Rattle.fan.specs.declared.planner.Planned.TheVariants.{Plan}
 use Rattle.fan_settings.specs.Settings.{Fan, limit_in, divisor_in}
 
 -- the registers ts have the plan for w (P-2) on a fan, and differ from rs in nothing else
 pub record PlanSet (rs ts : List ℕ) (f : Fan) (w : ℕ) : Type 0 where
   pub divisor : Divisor
   pub limit : ℕ
-  pub planned : plan_of w ≡ Plan divisor limit
+  pub planned : plan_of w ≡ some_plan divisor limit
   pub is_plan : IsPlan w (value_of divisor) limit
   -- gathering gives back the plan's divisor and limit
   pub divisor_set : divisor_in ts f ≡ divisor

@@ -14,7 +14,7 @@ use Rattle.fan.specs.declared.planner.Choice.{Choice}
 use Rattle.fan.specs.declared.Divisor.{Divisor}
 use Rattle.fan.specs.declared.Plan.{Plan}
 use Rattle.fan.specs.Count.{per_minute, value_of, stored_of, count_of}
-use Rattle.fan.specs.Plan.{IsPlan, IsPlanned, Plans, rings_from, asked, is_no_speed, rings_at}
+use Rattle.fan.specs.Plan.{some_plan, IsPlan, IsPlanned, Plans, rings_from, asked, is_no_speed, rings_at}
 use Rattle.fan.specs.Search.{product_of, best_to, planned_by, plan_of}
 use Rattle.fan.proofs.Divisors.{value_pos, value_is, value_inj, divisor_pos}
 use Rattle.fan.proofs.planner.Ringing.{ring_le, le_ring, rings_as_planned, count_ge, count_le}
@@ -70,12 +70,9 @@ plan_of_is w = go (is_no_speed w) refl
           plan = λ z. chosen_is w (asked_pos w (in_range w e).0 (in_range w e).1);
         }
 
-abbrev planned : Divisor → ℕ → Option Plan
-planned d l = Some (record { divisor = d; limit = l })
-
 -- one plan only: the products are equal, then the divisors, then the limits
 plan_unique : (w l m : ℕ) (d e : Divisor) → IsPlan w (value_of d) l → IsPlan w (value_of e) m
-    → planned d l ≡ planned e m
+    → some_plan d l ≡ some_plan e m
 plan_unique w l m d e p q =
     let s : rings_from (value_of d) l ≡ rings_from (value_of e) m =
     le_antisymm (q.largest (value_of d) l (value_is d) p.limit p.within)
@@ -85,7 +82,7 @@ plan_unique w l m d e p q =
     (q.smallest (value_of d) l (value_is d) p.limit s) in
     let n : l + 1 ≡ m + 1 =
     sym (mul-div_cancel (l + 1) (value_pos d)) ∙ ap₂ (λ (x y : ℕ). x / y) s v ∙ mul-div_cancel (m + 1) (value_pos e) in
-    ap₂ planned (value_inj d e v) (omega arith)
+    ap₂ some_plan (value_inj d e v) (omega arith)
 
 unique : (w : ℕ) (p q : Option Plan) → IsPlanned w p → IsPlanned w q → p ≡ q
 unique w (Some p) (Some q) a b = plan_unique w p.limit q.limit p.divisor q.divisor (a.plan refl) (b.plan refl)

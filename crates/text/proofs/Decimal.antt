@@ -8,7 +8,8 @@ use mathlib.Core.List.{List, [], ◌∷◌, ◌++◌, append_assoc, append-nil}
 use borrow.Author.Tests.{lt-ltb, le-ltb, ltb-true, ltb-false}
 use lib.Dec.{ltb}
 use Rattle.bits.specs.Bits.{choose}
-use Rattle.text.specs.Text.{Put}
+use Rattle.text.specs.Pages.{Puts}
+use Rattle.text.specs.declared.Page.{Page}
 use Rattle.text.proofs.Puts.{◌then◌}
 use Rattle.text.specs.Numbers.{digit, spell, decimal, spaced, value_after, value, Digits, NoLeadingZero, Decimals}
 
@@ -127,15 +128,14 @@ decimals =
     }
 
 -- ---- as it is put
-pub put_one : (o p : List ℕ) (at m n : ℕ) → n < 10 → Put o at (digit n ∷ []) p m → Put o at (decimal n) p m
-put_one o p at m n h f = rw (decimal_one n h) f
+pub put_one : (o p : Page) (n : ℕ) → n < 10 → Puts o (digit n ∷ []) p → Puts o (decimal n) p
+put_one o p n h f = rw (decimal_one n h) f
 
-pub put_ten : (o p q : List ℕ) (at l m n : ℕ) → 10 ≤ n → Put o at (decimal (n / 10)) p l → Put p l (digit n ∷ []) q m
-    → Put o at (decimal n) q m
-put_ten o p q at l m n h f g = rw (decimal_more n h) (f then g)
+pub put_ten : (o p q : Page) (n : ℕ) → 10 ≤ n → Puts o (decimal (n / 10)) p → Puts p (digit n ∷ []) q
+    → Puts o (decimal n) q
+put_ten o p q n h f g = rw (decimal_more n h) (f then g)
 
 -- a number behind a space
-pub put_behind_space : (o p q : List ℕ) (at l m n : ℕ) → Put o at (32 ∷ []) p l → Put p l (decimal n) q m
-    → Put o at (spaced n) q m
+pub put_behind_space : (o p q : Page) (n : ℕ) → Puts o (32 ∷ []) p → Puts p (decimal n) q → Puts o (spaced n) q
 unfolding spaced
-put_behind_space o p q at l m n f g = f then g
+put_behind_space o p q n f g = f then g

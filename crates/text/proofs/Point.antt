@@ -4,9 +4,11 @@ use Prim.Native.Nat.{ℕ, zero, suc, ◌-◌, ◌*◌, ◌/◌, ◌%◌, ◌^◌
 use native.Mathlib.Nat.{div-one, mod-one, div-div-eq-div-mul, pow-succ', mul_assoc, mod-add-div}
 use native.Mathlib.Omega.{arith}
 use mathlib.Core.Path.{◌≡◌, refl, sym, ap, ◌∙◌}
-use mathlib.Core.List.{List, [], ◌∷◌, ◌++◌, append_assoc}
+use mathlib.Core.List.{[], ◌∷◌, ◌++◌, append_assoc}
 use lib.ListN.{length, length-append}
-use Rattle.text.specs.Text.{ascii, Put}
+use Rattle.text.specs.Text.{ascii}
+use Rattle.text.specs.Pages.{Puts}
+use Rattle.text.specs.declared.Page.{Page}
 use Rattle.text.specs.Numbers.{digit, decimal, value_after, value, Digits, last_digits, pointed, places, Places}
 use Rattle.text.proofs.Puts.{◌then◌}
 use Rattle.text.proofs.Decimal.{value_snoc, digits_snoc}
@@ -47,10 +49,9 @@ all_places =
     record { none = λ n. refl; point = has_point; count = last_count; digits = last_digits_law; means = last_means }
 
 -- ---- as it is put
-pub put_point : (o p q : List ℕ) (at l m n k : ℕ) → k ≡ 0 → Put o at (decimal n) p l → Put p l (46 ∷ []) q m
-    → Put o at (pointed k n) q m
+pub put_point : (o p q : Page) (k n : ℕ) → k ≡ 0 → Puts o (decimal n) p → Puts p (46 ∷ []) q → Puts o (pointed k n) q
 unfolding pointed last_digits
-put_point o p q at l m n k h f g = rw (h, div-one) (f then g)
+put_point o p q k n h f g = rw (h, div-one) (f then g)
 
 pointed_more : (k n : ℕ) → pointed (suc k) n ≡ pointed k (n / 10) ++ (digit n ∷ [])
 unfolding pointed last_digits
@@ -58,19 +59,18 @@ pointed_more k n =
     ap (λ (x : ℕ). decimal x ++ (46 ∷ (last_digits k (n / 10) ++ (digit n ∷ [])))) (whole_more k n)
     ∙ sym (append_assoc (decimal (n / 10 / 10 ^ k)) (46 ∷ last_digits k (n / 10)) (digit n ∷ []))
 
-pub put_behind : (o p q : List ℕ) (at l m n k : ℕ) → (k ≡ 0 → ⊥) → Put o at (pointed (k - 1) (n / 10)) p l
-    → Put p l (digit n ∷ []) q m → Put o at (pointed k n) q m
-put_behind o p q at l m n zero h f g = absurd (h refl)
-put_behind o p q at l m n (suc k) h f g =
+pub put_behind : (o p q : Page) (k n : ℕ) → (k ≡ 0 → ⊥) → Puts o (pointed (k - 1) (n / 10)) p
+    → Puts p (digit n ∷ []) q → Puts o (pointed k n) q
+put_behind o p q zero n h f g = absurd (h refl)
+put_behind o p q (suc k) n h f g =
     let e : suc k - 1 ≡ k = omega arith in
     rw (pointed_more k n) ((rw e at f) then g)
 
-pub put_no_point : (o p : List ℕ) (at m n k : ℕ) → k ≡ 0 → Put o at (decimal n) p m → Put o at (places k n) p m
+pub put_no_point : (o p : Page) (k n : ℕ) → k ≡ 0 → Puts o (decimal n) p → Puts o (places k n) p
 unfolding places
-put_no_point o p at m n k h f = rw h f
+put_no_point o p k n h f = rw h f
 
-pub put_some_places : (o p : List ℕ) (at m n k : ℕ) → (k ≡ 0 → ⊥) → Put o at (pointed k n) p m
-    → Put o at (places k n) p m
+pub put_some_places : (o p : Page) (k n : ℕ) → (k ≡ 0 → ⊥) → Puts o (pointed k n) p → Puts o (places k n) p
 unfolding places
-put_some_places o p at m n zero h f = absurd (h refl)
-put_some_places o p at m n (suc k) h f = f
+put_some_places o p zero n h f = absurd (h refl)
+put_some_places o p (suc k) n h f = f

@@ -2,7 +2,7 @@
 -- a tenth of it with a digit less.
 use borrow.Author.Rules.{rules}
 use Rattle.text.proofs.Point.{put_point, put_behind}
-use Rattle.text.proofs.+put_pointed.Goals as goal
+use Rattle.text.proofs.Page.+put_pointed.Goals as goal
 
 pub returns-then-digits-eq0 : goal.returns-then-digits-eq0
 returns-then-digits-eq0 t c = search (rules, put_point)

@@ -3,10 +3,11 @@
 use Prim.Native.Nat.{ℕ, ◌+◌, ◌*◌, ◌/◌}
 use mathlib.Core.Path.{◌≡◌}
 use mathlib.Core.Bool.{Bool, true, ◌&&◌, beq}
-use mathlib.Core.List.{List, [], ◌∷◌}
+use mathlib.Core.List.{[], ◌∷◌}
 use lib.Dec.{T, eqb}
 use Rattle.bits.proofs.Every.{every, same_below, same_tests}
-use Rattle.text.specs.Text.{Put}
+use Rattle.text.specs.Pages.{Puts}
+use Rattle.text.specs.declared.Page.{Page}
 use Rattle.text_hex.specs.Hex.{hex_digit, hex_with, capital, small, is_hex_digit, worth, Hexes}
 use Rattle.text.proofs.Puts.{◌then◌}
 
@@ -33,7 +34,7 @@ pub small_hexes : Hexes small
 unfolding hex_digit
 small_hexes = hexes_by small tt tt
 
-pub put_hexes : (o p q : List ℕ) (at m n letter b x y : ℕ) → x ≡ hex_digit letter (b / 16) → y ≡ hex_digit letter b
-    → Put o at (x ∷ []) p m → Put p m (y ∷ []) q n → Put o at (hex_with letter b) q n
+pub put_hexes : (o p q : Page) (letter b x y : ℕ) → x ≡ hex_digit letter (b / 16) → y ≡ hex_digit letter b
+    → Puts o (x ∷ []) p → Puts p (y ∷ []) q → Puts o (hex_with letter b) q
 unfolding hex_with
-put_hexes o p q at m n letter b x y e d f g = rw (← e, ← d) (f then g)
+put_hexes o p q letter b x y e d f g = rw (← e, ← d) (f then g)

@@ -2,10 +2,10 @@
 #![tactic(auto)]
 
 ghost use Rattle.std.specs.Prelude.{◌≡◌, ◌<◌};
-ghost use Rattle.text.specs.Text.{Put};
+ghost use Rattle.text.specs.Pages.{Puts};
 ghost use Rattle.text_hex.specs.Hex.{hex_digit, hex_with, hex, small_hex};
 
-use text::put_byte;
+use text::Page;
 
 // The last digit of a number in base 16, with the letters from a given one on.
 fn hex_digit(letter: u8, n: u8) -> u8
@@ -20,24 +20,24 @@ fn hex_digit(letter: u8, n: u8) -> u8
 }
 
 // A byte as two digits of base 16.
-fn put_hex_with(out: &mut [u8], at: usize, letter: u8, byte: u8) -> usize
+fn put_hex_with(page: &mut Page, letter: u8, byte: u8)
     requires { letter < 128 }
-    ensures { Put out.old at (hex_with letter byte) out.new result }
+    ensures { Puts page.old (hex_with letter byte) page.new }
 {
-    let next = put_byte(out, at, hex_digit(letter, byte / 16));
-    put_byte(out, next, hex_digit(letter, byte))
+    page.put_byte(hex_digit(letter, byte / 16));
+    page.put_byte(hex_digit(letter, byte));
 }
 
 // A byte as two digits of base 16, in capitals.
-pub fn put_hex(out: &mut [u8], at: usize, byte: u8) -> usize
-    ensures { Put out.old at (hex byte) out.new result }
+pub fn put_hex(page: &mut Page, byte: u8)
+    ensures { Puts page.old (hex byte) page.new }
 {
-    put_hex_with(out, at, b'A', byte)
+    put_hex_with(page, b'A', byte);
 }
 
 // A byte as two digits of base 16, in small letters.
-pub fn put_small_hex(out: &mut [u8], at: usize, byte: u8) -> usize
-    ensures { Put out.old at (small_hex byte) out.new result }
+pub fn put_small_hex(page: &mut Page, byte: u8)
+    ensures { Puts page.old (small_hex byte) page.new }
 {
-    put_hex_with(out, at, b'a', byte)
+    put_hex_with(page, b'a', byte);
 }

@@ -1,6 +1,6 @@
 -- Each case is its line of `speed_word`; the claim is `speed_words`.
 -- Assumes nothing.
-use borrow.Author.Rules.{rules}
+use Rattle.std.proofs.Common.{rules}
 use Rattle.image.proofs.words.Speeds.{speed_words}
 use Rattle.image.proofs.words.speed_word.Goals as goal
 
@@ -15,6 +15,3 @@ returns-in-TooSlow c = record { equation = search rules; claims = speed_words }
 
 pub returns-in-Refused : goal.returns-in-Refused
 returns-in-Refused c = record { equation = search rules; claims = speed_words }
-
-pub returns-in-WrongLength : goal.returns-in-WrongLength
-returns-in-WrongLength c = record { equation = search rules; claims = speed_words }

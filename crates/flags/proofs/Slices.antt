@@ -1,82 +1,77 @@
--- Eight bytes of a slice as one number, by fours; and bytes stored one after another. Assumes nothing.
+-- Eight bytes of a slice as one number; and bytes stored one after another. Assumes nothing.
 use mathlib.Core.Path.{◌≡◌, refl, ap, ap₂, subst, sym, ◌∙◌}
-use mathlib.Core.List.{List, ◌++◌}
-use Prim.Native.Nat.{ℕ, zero, suc, ◌+◌, ◌-◌, ◌*◌, ◌/◌, ◌%◌, ◌<◌, ◌≤◌}
-use native.Mathlib.Numerals.{add-one, add-two, add-three}
+use mathlib.Core.List.{List, ◌∷◌, ◌++◌, append_assoc}
+use Prim.Native.Nat.{ℕ, zero, suc, ◌+◌, ◌-◌, ◌<◌, ◌≤◌}
+use native.Mathlib.Nat.{div-div-eq-div-mul}
 use native.Mathlib.Omega.{arith}
 use borrow.Author.Tests.{le-leb, lt-leb}
-use lib.ListN.{length, get_or, set}
-use lib.Seq.{sets, get_or-set_other}
+use lib.ListN.{length, get_or, set, take, drop}
+use lib.Seq.{sets, sets-eq, drop-cons, get_or-set_other}
+use mir.Syntax.{w8, w64}
+use mir.Val.{Fits}
+use borrow.Rule.Slice.PartMut.{put_mid, post_of}
+use Rattle.std.specs.Int.{from_le_bytes, to_le_bytes}
+use Rattle.std.proofs.lemmas.List.{drop-drop}
 use Rattle.flags.specs.Bytes.{joined, bytes_of, AreBytes}
-use Rattle.flags.specs.Bytes.{flags_of, four_from, eight_from, flags_at, put_eight}
+use Rattle.flags.specs.Bytes.{flags_of, eight_from, flags_at, put_eight}
 use Rattle.bits.specs.Map.{tabulate}
 use Rattle.flags.proofs.Joined.{flags_joined}
 
--- ---- four bytes
-pub four_is : (s : List ℕ) (at a b c d : ℕ) → a ≡ get_or s at 0 → b ≡ get_or s (at + 1) 0 → c ≡ get_or s (at + 2) 0
-    → d ≡ get_or s (at + 3) 0
-    → a < 256 → b < 256 → c < 256 → d < 256
-    → (((d * 256 + c) * 256 + b) * 256 + a ≡ joined (four_from s at)) × AreBytes (four_from s at)
-four_is s at a b c d ea eb ec ed ha hb hc hd =
-    (rw (← ea, ← eb, ← ec, ← ed) (omega arith), rw (← ea, ← eb, ← ec, ← ed) (ha, (hb, (hc, (hd, tt)))))
+-- ---- eight bytes of a slice, one after another
+from_place : (s : List ℕ) (n at : ℕ) → at + n ≤ length s → take n (drop at s) ≡ tabulate n at (λ i. get_or s i 0)
+from_place s zero at h = refl
+from_place s (suc n) at h =
+    ap (take (suc n)) (drop-cons s at 0 (omega arith))
+    ∙ ap (λ (x : List ℕ). get_or s at 0 ∷ x) (from_place s n (suc at) (omega arith))
 
-pub put_four : (im s t u v : List ℕ) (at w : ℕ) → s ≡ set im at (w % 256) → t ≡ set s (at + 1) (w / 256 % 256)
-    → u ≡ set t (at + 2) (w / 256 / 256 % 256)
-    → v ≡ set u (at + 3) (w / 256 / 256 / 256 % 256) → v ≡ sets im at (bytes_of 4 w)
-put_four im s t u v at w es et eu ev = ev ∙ rw (eu, et, es, add-one, add-two, add-three)
+eight_is : (s : List ℕ) (at : ℕ) → at + 8 ≤ length s → take 8 (drop at s) ≡ eight_from s at
+eight_is s at h =
+    let one : at + 1 ≡ suc at = omega arith in
+    let two : at + 2 ≡ suc (suc at) = omega arith in
+    let three : at + 3 ≡ suc (suc (suc at)) = omega arith in
+    let four : at + 4 ≡ suc (suc (suc (suc at))) = omega arith in
+    let five : suc (suc (suc (suc at))) + 1 ≡ suc (suc (suc (suc (suc at)))) = omega arith in
+    let six : suc (suc (suc (suc at))) + 2 ≡ suc (suc (suc (suc (suc (suc at))))) = omega arith in
+    let seven : suc (suc (suc (suc at))) + 3 ≡ suc (suc (suc (suc (suc (suc (suc at)))))) = omega arith in
+    from_place s 8 at h ∙ rw (one, two, three, four, five, six, seven) refl
+
+number_is : (s : List ℕ) (at : ℕ) → from_le_bytes w64 (eight_from s at) ≡ joined (eight_from s at)
+number_is s at = omega arith
 
 -- ---- eight flags
 pub flags_none : (s : List ℕ) (at : ℕ) → length s < at + 8 → 0 ≡ flags_at s at
 unfolding flags_at
 flags_none s at h = simp (lt-leb (at + 8) (length s) h)
 
-pub flags_are : (s : List ℕ) (at low high r : ℕ) → 8 ≤ length s → at ≤ length s - 8
-    → (low ≡ joined (four_from s at)) × AreBytes (four_from s at)
-    → (high ≡ joined (four_from s (at + 4))) × AreBytes (four_from s (at + 4)) → r ≡ flags_of (high * 0x1_0000_0000 + low)
-    → r ≡ flags_at s at
+pub flags_are : (s bs : List ℕ) (at n r : ℕ) → at + 8 ≤ length s → ((i : ℕ) → Fits w8 (get_or s i 0))
+    → bs ≡ take (at + 8 - at) (drop at s) → n ≡ from_le_bytes w64 bs → r ≡ flags_of n → r ≡ flags_at s at
 unfolding flags_at
-flags_are s at low high r n k l h e =
-    let w : high * 0x1_0000_0000 + low ≡ joined (eight_from s at) = omega (arith, l.0, h.0) in
-    let b : AreBytes (eight_from s at) = (l.1.0, (l.1.1.0, (l.1.1.1.0, (l.1.1.1.1.0, h.1)))) in
-    simp (le-leb (at + 8) (length s) (omega arith)) (e ∙ ap flags_of w ∙ flags_joined (eight_from s at) b refl)
-
-low_byte : (w q r : ℕ) → w ≡ q * 256 + r → r % 256 ≡ w % 256
-low_byte w q r e = omega arith
-
--- byte by byte from below: what is left of the number after each byte is its upper half,
--- moved down, and what is left of the lower
-bytes_cut : (w q r : ℕ) → q ≡ w / 0x1_0000_0000 → r ≡ w % 0x1_0000_0000 → bytes_of 4 r ++ bytes_of 4 q ≡ bytes_of 8 w
-bytes_cut w q r eq er =
-    let w0 : w ≡ q * 0x1_0000_0000 + r = omega arith in
-    let w1 : w / 256 ≡ q * 0x100_0000 + r / 256 = omega (arith, w0) in
-    let w2 : w / 256 / 256 ≡ q * 0x1_0000 + r / 256 / 256 = omega (arith, w1) in
-    let w3 : w / 256 / 256 / 256 ≡ q * 256 + r / 256 / 256 / 256 = omega (arith, w2) in
-    let small : r / 256 / 256 / 256 < 256 = omega arith in
-    let w4 : q ≡ w / 256 / 256 / 256 / 256 = omega (arith, w3, small) in
-    let a : r % 256 ≡ w % 256 = low_byte w (q * 0x100_0000) r (omega (arith, w0)) in
-    let b : r / 256 % 256 ≡ w / 256 % 256 = low_byte (w / 256) (q * 0x1_0000) (r / 256) (omega (arith, w1)) in
-    let c : r / 256 / 256 % 256 ≡ w / 256 / 256 % 256 =
-    low_byte (w / 256 / 256) (q * 256) (r / 256 / 256) (omega (arith, w2)) in
-    let d : r / 256 / 256 / 256 % 256 ≡ w / 256 / 256 / 256 % 256 =
-    low_byte (w / 256 / 256 / 256) q (r / 256 / 256 / 256) w3 in
-    rw (a, b, c, d, w4)
+flags_are s bs at n r h f e en er =
+    let k : at + 8 - at ≡ 8 = omega arith in
+    let w : n ≡ joined (eight_from s at) =
+    en ∙ ap (from_le_bytes w64) (e ∙ ap (λ (x : ℕ). take x (drop at s)) k ∙ eight_is s at h) ∙ number_is s at in
+    let b : (i : ℕ) → get_or s i 0 < 256 = λ i. (f i).fits in
+    let bytes : AreBytes (eight_from s at) = (b _, (b _, (b _, (b _, (b _, (b _, (b _, (b _, tt)))))))) in
+    simp (le-leb (at + 8) (length s) h) (er ∙ ap flags_of w ∙ flags_joined (eight_from s at) bytes refl)
 
 pub put_eight_none : (s : List ℕ) (at w : ℕ) → length s < at + 8 → s ≡ put_eight s at w
 unfolding put_eight
 put_eight_none s at w h = simp (lt-leb (at + 8) (length s) h)
 
-pub put_eight_all : (s t u : List ℕ) (at w : ℕ) → 8 ≤ length s → at ≤ length s - 8
-    → t ≡ sets s at (bytes_of 4 (w % 0x1_0000_0000)) → u ≡ sets t (at + 4) (bytes_of 4 (w / 0x1_0000_0000))
-    → u ≡ put_eight s at w
+bytes_are : (w : ℕ) → to_le_bytes w64 w ≡ bytes_of 8 w
+bytes_are w = simp div-div-eq-div-mul refl
+
+pub put_eight_all : (s bs : List ℕ) (at w : ℕ) → at + 8 ≤ length s → bs ≡ to_le_bytes w64 w
+    → put_mid at (at + 8 - at) s bs ≡ put_eight s at w
 unfolding put_eight
-put_eight_all s t u at w n k et eu =
-    let next : at + 4 ≡ suc (suc (suc (suc at))) = omega arith in
-    let both : sets (sets s at (bytes_of 4 (w % 0x1_0000_0000))) (at + 4) (bytes_of 4 (w / 0x1_0000_0000))
-    ≡ sets s at (bytes_of 4 (w % 0x1_0000_0000) ++ bytes_of 4 (w / 0x1_0000_0000)) =
-    ap (λ (n : ℕ). sets (sets s at (bytes_of 4 (w % 0x1_0000_0000))) n (bytes_of 4 (w / 0x1_0000_0000))) next in
-    simp (le-leb (at + 8) (length s) (omega arith))
-    (eu ∙ ap (λ (x : List ℕ). sets x (at + 4) (bytes_of 4 (w / 0x1_0000_0000))) et ∙ both
-    ∙ ap (sets s at) (bytes_cut w _ _ refl refl))
+put_eight_all s bs at w h e =
+    let k : at + (at + 8 - at) ≡ at + 8 = omega arith in
+    let rest : post_of at (at + 8 - at) s ≡ drop (at + 8) s =
+    drop-drop (at + 8 - at) at s ∙ ap (λ (x : ℕ). drop x s) k in
+    simp (le-leb (at + 8) (length s) h)
+    (ap₂ (λ (x y : List ℕ). take at s ++ (x ++ y)) (e ∙ bytes_are w) rest
+    ∙ sym (append_assoc (take at s) (bytes_of 8 w) (drop (at + 8) s))
+    ∙ sym (sets-eq (bytes_of 8 w) s at h))
 
 -- ---- bytes stored one after another from a place on, each a function of its place
 module _ (f : ℕ → ℕ) where

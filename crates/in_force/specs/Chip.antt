@@ -1,13 +1,12 @@
 -- Demand 3, whole, for any chip: an alarm speed asked for is an alarm that rings (rule P-9).
 -- It is one claim about every list of calls. Laws.antt says what a chip must have for it.
-use Rattle.std.specs.Prelude.{◌≡◌, Bool, true, false, List, ◌≢◌, ◌↔◌, ℕ, ◌*◌, ◌≤◌, eqb, length}
+use Rattle.std.specs.Prelude.{◌≡◌, Bool, true, false, List, ◌≢◌, ◌↔◌, ℕ, ◌*◌, ◌≤◌, eqb, length, Option, Some, None}
 use Rattle.bits.specs.Bits.{choose, flag_of, Change, changes}
 use Rattle.fan.specs.Count.{per_minute, value_of, count_of}
 use Rattle.fan.specs.declared.Divisor.{Divisor}
 use Rattle.fan.specs.Plan.{plan_rings, rings_at}
 use Rattle.fan.specs.Search.{plan_of}
-use Rattle.fan.specs.declared.planner.Planned.{Planned}
-use Rattle.fan.specs.declared.planner.Planned.TheVariants.{Plan, Refused}
+use Rattle.fan.specs.declared.Plan.{Plan}
 use Rattle.fan_settings.specs.Settings.{Fan, limit_in, divisor_in, settings}
 use Rattle.fan_settings.specs.SettingsClaims.{PlanSet}
 use Rattle.in_force.specs.InForce.{Force, none, plan, Machine, Found, found, next, after_all, InForce, rewritten}
@@ -52,9 +51,9 @@ pub record Alarm : Type 0 where
 abbrev pub alarm : ℕ → Divisor → ℕ → Alarm
 alarm w d l = record { speed = w; divisor = d; limit = l }
 
-abbrev pub alarm_for : ℕ → Planned → Force Alarm
-alarm_for w (Plan d l) = plan (alarm w d l)
-alarm_for w Refused = none
+abbrev pub alarm_for : ℕ → Option Plan → Force Alarm
+alarm_for w (Some p) = plan (alarm w p.divisor p.limit)
+alarm_for w None = none
 
 -- every state of a chip: so many cells, whatever they hold, and anything besides
 abbrev pub Whole : {S C : Type 0} → Chip S C → S → Type 0

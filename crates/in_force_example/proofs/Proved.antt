@@ -1,4 +1,5 @@
 -- The machine has the laws of a chip. Assumes nothing.
+use Rattle.std.specs.Prelude.{Option, Some, None}
 use mathlib.Core.Path.{◌≡◌, refl, sym, ap, ◌∙◌}
 use mathlib.Core.Bool.{Bool, true, false, true≢false}
 use mathlib.Core.List.{List, [], ◌∷◌}
@@ -19,8 +20,7 @@ use Rattle.fan.specs.declared.Divisor.{Divisor}
 use Rattle.fan_settings.specs.Settings.{has_cell, is_sound, is_apart, planned_registers}
 use Rattle.fan_settings.proofs.Settings.{all_sound, all_apart, put, put_length, put_other}
 use Rattle.fan.specs.Search.{plan_of}
-use Rattle.fan.specs.declared.planner.Planned.{Planned}
-use Rattle.fan.specs.declared.planner.Planned.TheVariants.{Plan, Refused}
+use Rattle.fan.specs.declared.Plan.{Plan}
 use Rattle.fan.proofs.planner.Planning.{plan_of_is}
 use Rattle.in_force.specs.Chip.{reset, writing, Whole}
 use Rattle.in_force.specs.Laws.{Keeps, Stores, Leaves, AnsweredAs, Takes, ChipLaws}
@@ -53,9 +53,9 @@ done : (s : State) (c : Call) → answer_to s c ≡ 0
 unfolding after
 done s c a = rw a
 
-planned_length : (rs : List ℕ) (f : ℕ) (p : Planned) → length (planned_registers rs (fan_of f) p) ≡ length rs
-planned_length rs f (Plan d l) = put_length rs (fan_of f) d l
-planned_length rs f Refused = refl
+planned_length : (rs : List ℕ) (f : ℕ) (p : Option Plan) → length (planned_registers rs (fan_of f) p) ≡ length rs
+planned_length rs f (Some p) = put_length rs (fan_of f) p.divisor p.limit
+planned_length rs f None = refl
 
 registers_whole : (rs : List ℕ) (c : Call) → length rs ≡ 5 → length (registers_after rs c) ≡ 5
 registers_whole rs (write k v) w =

@@ -9,6 +9,7 @@ use Rattle.w83782d_map.specs.Cells.{bank_cell, fan_count, fan_limit, high_limit,
 use Rattle.w83782d_map.specs.Cells.{ovt_property, sensor1_hysteresis, sensor1_over, sensor1_value, voltage}
 use Rattle.w83782d_registers.specs.Registers.{is_interrupt}
 use Rattle.w83782d_conditions.specs.declared.Comparison.{Comparison}
+use Rattle.w83782d_conditions.specs.declared.RemoteComparison.{RemoteComparison}
 use Rattle.w83782d_conditions.specs.declared.Compared.{Compared}
 
 -- ---- conditions, of the registers with the readings stored
@@ -44,10 +45,16 @@ status_mode rs n =
 unfoldable pub output_mode : List ℕ → ℕ → Mode
 output_mode rs n = mode_if (not (is_interrupt rs n))
 
--- ---- what a sample finds: how each sensor compares with its limits, the bits of rails
--- and fans in both bytes (the sensors' off), the OVT modes
+-- ---- what a sample finds: how each sensor compares with its limits, with the OVT modes of sensors 2 and 3, and the
+-- bits of rails and fans in both bytes (the sensors' off)
+abbrev pub comparison : Mode → Bool → Bool → Comparison
+comparison m above below = record { mode = m; above = above; below = below }
+
 unfoldable pub comparison_of : List ℕ → ℕ → Comparison
-comparison_of rs n = record { mode = status_mode rs n; above = is_above rs n; below = is_below rs n }
+comparison_of rs n = comparison (status_mode rs n) (is_above rs n) (is_below rs n)
+
+unfoldable pub remote_comparison_of : List ℕ → ℕ → RemoteComparison
+remote_comparison_of rs n = record { status = comparison_of rs n; output = output_mode rs n }
 
 unfoldable pub compared_of : List ℕ → Compared
 compared_of rs =
@@ -57,9 +64,6 @@ compared_of rs =
           ∷ is_slow rs 2 ∷ []);
       second =
           word (is_outside rs 4 ∷ is_outside rs 5 ∷ is_outside rs 6 ∷ is_slow rs 3 ∷ false ∷ false ∷ false ∷ false ∷ []);
-      one = comparison_of rs 1;
-      two = comparison_of rs 2;
-      three = comparison_of rs 3;
-      output2 = output_mode rs 2;
-      output3 = output_mode rs 3;
+      sensor1 = comparison_of rs 1;
+      remote = remote_comparison_of rs 2 ∷ remote_comparison_of rs 3 ∷ [];
     }

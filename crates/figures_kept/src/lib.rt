@@ -52,10 +52,8 @@ fn row_in(figures: &mut [i64], samples: u64, values: &[i64])
     requires { 3 * length values.now ≤ length figures.old }
     ensures { figures.new ≡ figures_after samples figures.old values.now }
 {
-    let mut i = 0;
-    while i < values.len() {
+    for i in 0..values.len() {
         value_in(figures, 3 * i, samples, values[i]);
-        i += 1;
     }
 }
 
@@ -79,13 +77,11 @@ pub fn count_bits(counts: &mut [u64], byte: u8)
     ensures { (counts.new ≡ bit_counts_after counts.old byte) × BitCounts }
 {
     let mut rest = byte;
-    let mut i = 0;
-    while i < counts.len() {
+    for count in counts.iter_mut() {
         if rest == 0 {
             return;
         }
-        counts[i] = std::num::wrapping_add_u64(counts[i], (rest % 2) as u64);
-        rest = rest / 2;
-        i += 1;
+        *count = count.wrapping_add((rest % 2) as u64);
+        rest /= 2;
     }
 }

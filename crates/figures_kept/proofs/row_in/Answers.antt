@@ -1,5 +1,3 @@
--- The invariant: the figures of the readings before i are done, those from i on are still to come.
--- Assumes nothing.
 use Rattle.std.proofs.Common.{refl, arith, rules}
 use Rattle.figures_kept.proofs.Places.{figures_next, figures_done}
 use Rattle.figures_kept.proofs.row_in.Goals as goal

@@ -7,7 +7,7 @@ ghost use Rattle.bits.specs.Bits.{is_on};
 ghost use Rattle.w83782d_map.specs.Cells.{bank_cell};
 ghost use Rattle.w83782d_registers.specs.Registers.{cell_of, reach_of, is_interrupt};
 ghost use Rattle.w83782d_registers.specs.Registers.{with_chassis, vendor_byte, shown_of};
-ghost use Rattle.w83782d_registers.specs.Parts.{restored_byte, restored_in};
+ghost use Rattle.w83782d_registers.specs.Parts.{cell_or_none, restored_byte, restored_in};
 
 use bits::{Bit, is_on};
 use w83782d_map::{
@@ -18,35 +18,29 @@ use w83782d_map::{
 
 // ---- The cell that an access reaches
 
-// The cell of an index in a bank; CELLS where there is none.
-fn cell_of(index: u8, bank: u8) -> usize
-    ensures { result ≡ cell_of bank index }
+// The cell of an index in a bank. Only 50h to 5Fh look at the bank; 60h to 7Fh are 20h to 3Fh.
+#[tactic(auto, unfolding(crate::specs::Registers::cell_of))]
+fn cell_of(index: u8, bank: u8) -> Option<usize>
+    ensures { result ≡ cell_or_none (cell_of bank index) }
 {
-    let i = index as usize;
-    if i < 0x20 {
-        return CELLS;
-    }
-    if 0x7f < i {
-        return CELLS;
-    }
-    if 0x60 <= i {
-        return i - 0x60;
-    }
-    if i < 0x50 {
-        return i - 0x20;
-    }
-    match bank {
-        0 => i - 0x20,
-        1 => i - 0x10,
-        2 => i,
-        4 => i + 0x10,
-        _ => CELLS,
+    let i = usize::from(index);
+    match i {
+        0x20..=0x4f => Some(i - 0x20),
+        0x50..=0x5f => match bank {
+            0 => Some(i - 0x20),
+            1 => Some(i - 0x10),
+            2 => Some(i),
+            4 => Some(i + 0x10),
+            _ => None,
+        },
+        0x60..=0x7f => Some(i - 0x60),
+        _ => None,
     }
 }
 
-// The cell that an access at an index reaches; CELLS where there is none.
-pub fn reach(s: &[u8], index: u8) -> usize
-    ensures { result ≡ reach_of s.now index }
+// The cell that an access at an index reaches.
+pub fn reach(s: &[u8], index: u8) -> Option<usize>
+    ensures { result ≡ cell_or_none (reach_of s.now index) }
 {
     cell_of(index, bits::cell(s, BANK_SELECT) & 0b0000_0111)
 }
@@ -57,13 +51,11 @@ pub fn reach(s: &[u8], index: u8) -> usize
 fn restored(cell: usize, old: u8, keep: bool) -> u8
     ensures { result ≡ restored_byte keep cell old }
 {
-    if !keep {
-        return power_on_byte(cell);
+    if keep && is_kept_by_reset(cell) {
+        old
+    } else {
+        power_on_byte(cell)
     }
-    if is_kept_by_reset(cell) {
-        return old;
-    }
-    power_on_byte(cell)
 }
 
 // Power-on of every cell, or a reset, which keeps some. A slice that is not of 112 cells stays.
@@ -73,10 +65,8 @@ pub fn restore(s: &mut [u8], keep: bool)
     if s.len() != CELLS {
         return;
     }
-    let mut cell = 0;
-    while cell < CELLS {
+    for cell in 0..CELLS {
         s[cell] = restored(cell, s[cell], keep);
-        cell += 1;
     }
 }
 
@@ -86,10 +76,7 @@ pub fn restore(s: &mut [u8], keep: bool)
 pub fn is_command(of: usize, cell: usize, value: u8) -> bool
     ensures { result ≡ (eqb cell of && is_on value 7) }
 {
-    if cell != of {
-        return false;
-    }
-    is_on(value, Bit::B7)
+    cell == of && is_on(value, Bit::B7)
 }
 
 // ---- Sensors 2 and 3
@@ -98,13 +85,11 @@ pub fn is_command(of: usize, cell: usize, value: u8) -> bool
 pub fn bank_cell(sensor: usize) -> usize
     ensures { (result ≡ bank_cell sensor) × (result ≤ 80) }
 {
-    if sensor == 2 {
-        return SENSOR_2;
-    }
-    SENSOR_3
+    if sensor == 2 { SENSOR_2 } else { SENSOR_3 }
 }
 
 // Whether the OVT output of sensor 2 or 3 is in interrupt mode, by bit 1 of its own 52h.
+#[tactic(auto, unfolding(crate::specs::Registers::is_interrupt))]
 pub fn is_interrupt(s: &[u8], sensor: usize) -> bool
     ensures { result ≡ is_interrupt s.now sensor }
 {
@@ -118,23 +103,17 @@ pub fn is_interrupt(s: &[u8], sensor: usize) -> bool
 pub fn with_chassis(byte: u8, chassis: bool) -> u8
     ensures { result ≡ with_chassis byte chassis }
 {
-    let rest = byte & 0b0010_1111;
-    if chassis {
-        return rest | 0b0001_0000;
-    }
-    rest | 0
+    (byte & 0b0010_1111) | if chassis { 0b0001_0000 } else { 0 }
 }
 
 fn vendor_byte(select: u8) -> u8
     ensures { result ≡ vendor_byte select }
 {
-    if is_on(select, Bit::B7) {
-        return 0x5c;
-    }
-    0xa3
+    if is_on(select, Bit::B7) { 0x5c } else { 0xa3 }
 }
 
 // The byte that a read of a cell shows.
+#[tactic(auto, unfolding(crate::specs::Registers::shown_of))]
 pub fn shown(s: &[u8], chassis: bool, cell: usize) -> u8
     ensures { result ≡ shown_of s.now chassis cell }
 {

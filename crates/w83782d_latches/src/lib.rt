@@ -2,13 +2,16 @@
 // value, and what power-on, a reset, a write, a read and a chassis event leave of them.
 #![tactic(auto)]
 
-ghost use Rattle.std.specs.Prelude.{◌≡◌, ◌≤◌};
+ghost use Rattle.std.specs.Prelude.{◌≡◌, ◌≤◌, [], ◌∷◌};
 ghost use Rattle.bits.specs.Bits.{choose};
+ghost use Rattle.sensor.specs.Sensor.{armed};
+ghost use Rattle.sensor.specs.declared.Mark.TheVariants.{Armed};
 ghost use Rattle.w83782d_registers.specs.Registers.{is_interrupt};
-ghost use Rattle.w83782d_latches.specs.Effects.{power_on_latches, reset_latches, written_latches};
+ghost use Rattle.w83782d_latches.specs.Effects.{latches, power_on_latches, reset_latches, written_latches};
 ghost use Rattle.w83782d_latches.specs.Effects.{with_released, read_latches, opened_latches};
-ghost use Rattle.w83782d_latches.specs.Ovt.{shown_ovt, ovt_of, OvtClaims};
+ghost use Rattle.w83782d_latches.specs.Ovt.{ovt_of, OvtClaims};
 
+use answers::Refusal;
 use sensor::{Mark, Remote};
 use w83782d_map::{CHASSIS_CLEAR, CONFIGURATION, SENSOR_2, SENSOR_3};
 use w83782d_registers::{is_command, is_interrupt};
@@ -21,77 +24,51 @@ pub struct Latches {
     pub remote: [Remote; 2],
 }
 
-// What reading an OVT output answers.
-#[derive(Clone, Copy)]
-pub enum Ovt {
-    Asserted,
-    Released,
-    // Answer 7: no such output; only sensors 2 and 3 have one.
-    Refused,
-}
-
-// An output as it is read.
-fn shown_ovt(asserted: bool) -> Ovt
-    ensures { result ≡ shown_ovt asserted }
-{
-    if asserted {
-        return Ovt::Asserted;
-    }
-    Ovt::Released
-}
-
 impl Latches {
+    // As power-on and a reset leave all but the chassis latch: armed, released.
+    fn armed(chassis: bool) -> Self
+        ensures { result ≡ latches chassis Armed (armed ∷ armed ∷ []) }
+    {
+        Latches {
+            chassis,
+            sensor1: Mark::Armed,
+            remote: [Remote::armed(); 2],
+        }
+    }
+
     // As power-on leaves them: closed, armed, released.
     pub fn power_on() -> Self
         ensures { result ≡ power_on_latches }
     {
-        let armed = Remote::armed();
-        let remote = [armed; 2];
-        Latches {
-            chassis: false,
-            sensor1: Mark::Armed,
-            remote,
-        }
+        Latches::armed(false)
     }
 
     // As a reset leaves them: all but the chassis latch.
     fn reset(self) -> Self
         ensures { result ≡ reset_latches self }
     {
-        let armed = Remote::armed();
-        let remote = [armed; 2];
-        Latches {
-            chassis: self.chassis,
-            sensor1: Mark::Armed,
-            remote,
-        }
+        Latches::armed(self.chassis)
     }
 
     // A chassis event.
-    pub fn opened(mut self) -> Self
+    pub fn opened(self) -> Self
         ensures { result ≡ opened_latches self }
     {
-        self.chassis = true;
-        self
+        Latches {
+            chassis: true,
+            ..self
+        }
     }
 
-    // The OVT output of sensor 2 or 3; any other sensor is refused as 7.
-    pub fn ovt(self, sensor: u8) -> Ovt
+    // Whether the OVT output of sensor 2 or 3 is asserted; any other sensor is refused as 7.
+    #[tactic(auto, unfolding(crate::specs::Ovt::ovt_of))]
+    pub fn ovt(self, sensor: u8) -> Result<bool, Refusal>
         ensures equation { result ≡ ovt_of self sensor }
         ensures claims { OvtClaims }
     {
         match sensor {
-            2 => {
-                let two = self.remote[0];
-                let output = two.output;
-                shown_ovt(output.asserted)
-            }
-            3 => {
-                let three = self.remote[1];
-                let output = three.output;
-                shown_ovt(output.asserted)
-            }
-            _ => Ovt::Refused,
+            2 | 3 => Ok(self.remote[usize::from(sensor - 2)].output.asserted),
+            _ => Err(Refusal::NoChannel),
         }
     }
 
@@ -101,24 +78,26 @@ impl Latches {
         ensures { result ≡ with_released self sensor }
     {
         let n = sensor - 2;
-        let remote = self.remote[n];
-        self.remote[n] = remote.released();
+        self.remote[n] = self.remote[n].released();
         self
     }
 }
 
 // The latches after an accepted write to a cell.
-pub fn write_latches(mut l: Latches, cell: usize, value: u8) -> Latches
+#[tactic(auto, unfolding(crate::specs::Effects::written_latches))]
+pub fn write_latches(l: Latches, cell: usize, value: u8) -> Latches
     ensures { result ≡ written_latches l cell value }
 {
     if is_command(CONFIGURATION, cell, value) {
-        return l.reset();
+        l.reset()
+    } else if is_command(CHASSIS_CLEAR, cell, value) {
+        Latches {
+            chassis: false,
+            ..l
+        }
+    } else {
+        l
     }
-    if is_command(CHASSIS_CLEAR, cell, value) {
-        l.chassis = false;
-        return l;
-    }
-    l
 }
 
 // After a read of the value of sensor 2 or 3: in interrupt mode its OVT output is released.
@@ -127,12 +106,14 @@ fn acknowledged(s: &[u8], l: Latches, sensor: usize) -> Latches
     ensures { result ≡ choose (is_interrupt s.now sensor) (with_released l sensor) l }
 {
     if is_interrupt(s, sensor) {
-        return l.released(sensor);
+        l.released(sensor)
+    } else {
+        l
     }
-    l
 }
 
 // The latches after a read of a cell.
+#[tactic(auto, unfolding(crate::specs::Effects::read_latches))]
 pub fn read_latches(s: &[u8], l: Latches, cell: usize) -> Latches
     ensures { result ≡ read_latches s.now l cell }
 {

@@ -1,7 +1,9 @@
 -- The bus accesses, looks, power-on and reset on a state of registers and latches (rules A-1, A-2, A-8, M-4 to M-8,
 -- I-1, I-7).
-use Rattle.std.specs.Prelude.{Bool, ◌&&◌, ◌||◌, List, [], ◌∷◌, ℕ, eqb, set}
+use Rattle.std.specs.Prelude.{Bool, ◌&&◌, ◌||◌, List, [], ◌∷◌, ℕ, Result, Ok, Err, eqb, set}
 use Rattle.answers.specs.Answers as answers
+use Rattle.answers.specs.declared.Refusal.{Refusal}
+use Rattle.answers.specs.Refusals.{answer_of}
 use Rattle.bits.specs.Bits.{choose, is_on, change, changes}
 use Rattle.w83782d_map.specs.Map.{present_at, fits}
 use Rattle.w83782d_map.specs.Cells.{configuration, interrupt_status1, interrupt_status2}
@@ -10,8 +12,6 @@ use Rattle.w83782d_registers.specs.Registers.{reach_of, power_on_registers, rese
 use Rattle.w83782d_latches.specs.declared.Latches.{Latches}
 use Rattle.w83782d_latches.specs.Effects.{power_on_latches, written_latches, read_latches}
 use Rattle.w83782d_bus.specs.declared.Outcome.{Outcome}
-use Rattle.w83782d_bus.specs.declared.ReadOutcome.{ReadOutcome}
-use Rattle.w83782d_bus.specs.declared.Looked.{Looked}
 
 -- ---- the state
 pub record State : Type 0 where
@@ -50,6 +50,10 @@ unfoldable pub write_of : State → ℕ → ℕ → Written
 write_of s i v = written_at s (reach_of s.registers i) v
 
 -- ---- I-7, a look: what a read answers and shows, by the registers and the chassis latch alone
+pub record Looked : Type 0 where
+  pub answer : ℕ
+  pub byte : ℕ
+
 abbrev pub looked : ℕ → ℕ → Looked
 looked a b = record { answer = a; byte = b }
 
@@ -106,9 +110,17 @@ written_in rs c v = choose (fits rs) (written_registers rs c v) rs
 abbrev pub read_in : List ℕ → ℕ → List ℕ
 read_in rs c = choose (fits rs) (read_registers rs c) rs
 
--- what a function left in the slice, with what it returned
-abbrev pub outcome_in : List ℕ → Outcome → Written
-outcome_in rs w = written (state rs w.latches) w.answer
+-- the byte of an answer, 0 where the call is refused
+abbrev pub byte_of : Result ℕ Refusal → ℕ
+byte_of (Ok b) = b
+byte_of (Err _) = 0
 
-abbrev pub read_outcome_in : List ℕ → ReadOutcome → Read
-read_outcome_in rs r = read (state rs r.latches) r.answer r.byte
+abbrev pub looked_as : Result ℕ Refusal → Looked
+looked_as r = looked (answer_of r) (byte_of r)
+
+-- what a function left in the slice, with what it returned
+abbrev pub outcome_in : {A : Type 0} → List ℕ → Outcome A → Written
+outcome_in rs o = written (state rs o.latches) (answer_of o.answer)
+
+abbrev pub read_outcome_in : List ℕ → Outcome ℕ → Read
+read_outcome_in rs o = read (state rs o.latches) (answer_of o.answer) (byte_of o.answer)

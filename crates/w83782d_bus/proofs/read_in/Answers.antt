@@ -1,12 +1,11 @@
 use borrow.Author.Rules.{rules}
-use Rattle.w83782d_bus.proofs.Cases.{read_short, read_refused, read_accepted}
+use Rattle.w83782d_bus.specs.Bus.{read_of}
+use Rattle.w83782d_bus.proofs.Cases.{read_accepted, read_refused}
 use Rattle.w83782d_bus.proofs.read_in.Goals as goal
 
-pub returns-then-s-ne-CELLS : goal.returns-then-s-ne-CELLS
-returns-then-s-ne-CELLS c = search (rules, read_short)
+pub returns-in-Ok : goal.returns-in-Ok
+unfolding read_of
+returns-in-Ok c = search (rules, read_accepted)
 
-pub returns-then-not-is_present : goal.returns-then-not-is_present
-returns-then-not-is_present c = search (rules, read_refused)
-
-pub returns : goal.returns
-returns c = search (rules, read_accepted)
+pub returns-in-Err : goal.returns-in-Err
+returns-in-Err c = search (rules, read_refused)

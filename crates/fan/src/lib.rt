@@ -64,23 +64,20 @@ pub enum Speed {
 }
 
 impl Divisor {
-    // The eight, in rising order.
-    pub const ALL: [Divisor; 8] = [
-        Divisor::By1,
-        Divisor::By2,
-        Divisor::By4,
-        Divisor::By8,
-        Divisor::By16,
-        Divisor::By32,
-        Divisor::By64,
-        Divisor::By128,
-    ];
-
     // The divisor of the low three bits.
     pub fn from_bits(bits: u8) -> Self
         ensures { (result ≡ from_bits bits) × (exponent_of result ≡ bits % 8) }
     {
-        Divisor::ALL[(bits % 8) as usize]
+        match bits % 8 {
+            0 => Divisor::By1,
+            1 => Divisor::By2,
+            2 => Divisor::By4,
+            3 => Divisor::By8,
+            4 => Divisor::By16,
+            5 => Divisor::By32,
+            6 => Divisor::By64,
+            _ => Divisor::By128,
+        }
     }
 
     // Its three bits.

@@ -50,9 +50,9 @@ fn best_choice(k: u32) -> Choice
     ensures { result ≡ best_to k 7 }
 {
     let first = Choice::at(k, Divisor::By1);
-    Divisor::ALL[1..]
-        .iter()
-        .fold(first, |best, divisor| best.or_at(k, *divisor))
+    (1..8u8).fold(first, |best, bits| {
+        best.or_at(k, Divisor::from_bits(bits))
+    })
 }
 
 // The divisor and limit whose alarm comes nearest to w turns a minute and misses no slower speed.

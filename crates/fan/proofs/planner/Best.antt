@@ -5,7 +5,8 @@ use native.Mathlib.Nat.{mul-le-mul_right, div-mul-le_self, le-div_iff_mul-le, le
 use native.Mathlib.Nat.{min-le_right, le_trans, le_of_lt, le_of_eq, zero-mul}
 use native.Mathlib.Decide.{dec_le}
 use native.Mathlib.Omega.{arith}
-use Rattle.std.specs.Prelude.{List, [], ◌∷◌, fold}
+use Rattle.std.specs.Prelude.{fold}
+use Rattle.std.specs.List.{range_with_len}
 use mathlib.Core.Path.{◌≡◌, refl, sym, subst, ap, ◌∙◌}
 use mathlib.Core.Logic.{◌⊎◌, inl, inr, ⊎_elim}
 use lib.Pow.{pow_pos, pow_mono}
@@ -13,7 +14,7 @@ use borrow.Author.Tests.{ltb-true, ltb-false}
 use Rattle.bits.proofs.BitLaws.{choose_ind}
 use Rattle.fan.specs.declared.planner.Choice.{Choice}
 use Rattle.fan.specs.declared.Divisor.{Divisor}
-use Rattle.fan.specs.declared.Divisor.TheVariants.{By1, By2, By4, By8, By16, By32, By64, By128}
+use Rattle.fan.specs.declared.Divisor.TheVariants.{By1, By2}
 use Rattle.fan.specs.Count.{exponent_of, value_of, from_bits}
 use Rattle.fan.specs.Search.{product_of, choice_at, better, best_to}
 use Rattle.fan.proofs.Divisors.{exponent_from_bits, value_from_bits, value_pos}
@@ -99,13 +100,11 @@ best k zero h =
     }
 best k (suc e) h = step k e (best_to k e) h (best k e (omega arith))
 
-abbrev pub larger_divisors : List Divisor
-larger_divisors = By2 ∷ By4 ∷ By8 ∷ By16 ∷ By32 ∷ By64 ∷ By128 ∷ []
-
--- weighing them in rising order, from a choice of the smallest
-pub over_eight : (k : ℕ) (c : Choice) → c ≡ choice_at k By1 → fold (better k) c larger_divisors ≡ best_to k 7
+-- weighing the seven larger ones in rising order, from a choice of the smallest
+pub over_eight : (k : ℕ) (c : Choice) → c ≡ choice_at k By1
+    → fold (λ b e. better k b (from_bits e)) c (range_with_len 1 7) ≡ best_to k 7
 unfolding best_to from_bits
-over_eight k c e = ap (λ (b : Choice). fold (better k) b larger_divisors) e
+over_eight k c e = ap (λ (b : Choice). fold (λ b e. better k b (from_bits e)) b (range_with_len 1 7)) e
 
 -- the best choice of the eight
 pub best_of_eight : (k : ℕ) → Best k 7 (best_to k 7)

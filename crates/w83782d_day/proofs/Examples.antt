@@ -16,7 +16,7 @@ use Rattle.w83782d_layout.specs.declared.samples.Sample.{Sample as Readings}
 use Rattle.w83782d_layout.specs.Samples.{undivided, zero_sample}
 use Rattle.w83782d_layout.specs.Form.{well_formed}
 use Rattle.w83782d_record.specs.declared.Kind.TheVariants.{Write, Read, Sample, Chassis}
-use Rattle.w83782d_record.specs.declared.Decoded.TheVariants.{Event, Refused}
+use Rattle.w83782d_record.specs.Decoded.{Event, Refused}
 use Rattle.w83782d_record.specs.Record.{decode_of, event_at, part_at}
 use Rattle.w83782d_bus.specs.Bus.{State}
 use Rattle.w83782d_replay.specs.Replay.{event_of, next, run_to}

@@ -1,9 +1,8 @@
 -- Two's complement over any half range: there and back, and levels in the order of the signed numbers.
 -- By the two halves of the codes. Assumes nothing.
-use Rattle.std.proofs.Common.{◌≡◌, ℕ, suc, ◌+◌, ◌-◌, ◌*◌, ◌%◌, ◌<◌, ◌≤◌, Bool, true, false, ltb, ℤ, pos, negsuc, neg_ℤ, sym, refl, ap, ◌∙◌, subst, ap₂, mod-lt, mod-eq_of_lt, arith, w8, w16, SFits, to_z, of_z, ltb-false, ltb-true, le-ltb, lt-ltb}
+use Rattle.std.proofs.Common.{◌≡◌, ℕ, suc, ◌+◌, ◌-◌, ◌*◌, ◌%◌, ◌<◌, ◌≤◌, Bool, true, false, ltb, ℤ, pos, negsuc, neg_ℤ, sym, refl, ap, ◌∙◌, subst, ap₂, mod-lt, mod-eq_of_lt, arith, w8, SFits, ltb-false, ltb-true, le-ltb, lt-ltb}
 use native.Mathlib.Nat.{add-mod_right}
 use lib.Signed.{lt_z}
-use mir.ValLaws.{to_z-of_z}
 use Rattle.bits.specs.Bits.{choose}
 use Rattle.numbers.specs.TwosComplement.{half8, signed_of, code_of, holds, level_of, TwosComplement}
 
@@ -107,19 +106,9 @@ pub byte_holds : (z : ℤ) → SFits w8 z → holds half8 z ≡ true
 byte_holds (pos n) f = lt-ltb n half8 f.sfits
 byte_holds (negsuc n) f = lt-ltb n half8 f.sfits
 
-pub holds_byte : (z : ℤ) → holds half8 z ≡ true → SFits w8 z
+holds_byte : (z : ℤ) → holds half8 z ≡ true → SFits w8 z
 holds_byte (pos n) e = record { sfits = ltb-true n half8 e }
 holds_byte (negsuc n) e = record { sfits = ltb-true n half8 e }
-
--- and what it says the machine keeps at both widths
-pub widens : (z : ℤ) → SFits w8 z → SFits w16 z
-widens z f = record { sfits = omega (arith, f.sfits) }
-
-pub kept_wide : (z : ℤ) → SFits w8 z → to_z w16 (of_z w16 (to_z w8 (of_z w8 z))) ≡ z
-kept_wide z f = ap (λ (x : ℤ). to_z w16 (of_z w16 x)) (to_z-of_z w8 z f) ∙ to_z-of_z w16 z (widens z f)
-
-pub kept_byte : (z : ℤ) → SFits w8 z → to_z w8 (of_z w8 (to_z w16 (of_z w16 z))) ≡ z
-kept_byte z f = ap (λ (x : ℤ). to_z w8 (of_z w8 x)) (to_z-of_z w16 z (widens z f)) ∙ to_z-of_z w8 z f
 
 -- the number of a byte fits a signed byte
 pub byte_fits : (code : ℕ) (z : ℤ) → code < 256 → z ≡ signed_of half8 code → SFits w8 z

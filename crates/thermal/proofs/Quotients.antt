@@ -4,19 +4,20 @@ use Prim.Native.Nat.{ℕ, zero, suc, ◌*◌, ◌/◌, ◌≤◌, ◌<◌}
 use native.Mathlib.Nat.{div-mul-le_self, lt-div-mul-add, div-eq_of_lt-le, div-le_self, suc-mul, zero-mul}
 use native.Mathlib.Numerals.{add-one}
 use native.Mathlib.Omega.{arith}
-use mathlib.Core.Path.{◌≡◌, refl, sym, ap, subst, ◌∙◌}
-use mathlib.Core.Bool.{true, false}
+use mathlib.Core.Path.{◌≡◌, refl, sym, ap, ◌∙◌}
+use mathlib.Core.Bool.{true}
 use mathlib.Core.Logic.{◌≢◌}
-use lib.Dec.{eqb, leb→le, le→leb, ltb→lt, lt→ltb, lit<}
-use lib.IntN.{ℤ, pos, negsuc, neg_ℤ, nat_abs, suc_ℤ, ◌-ℤ◌, ◌*ℤ◌}
-use lib.Signed.{lt_z, ◌≤ℤ◌, ◌<ℤ◌}
-use mir.Syntax.{w8}
+use lib.Dec.{eqb, leb→le, le→leb, ltb→lt, lt→ltb}
+use lib.IntN.{ℤ, pos, negsuc, neg_ℤ, suc_ℤ, ◌*ℤ◌}
+use lib.Signed.{◌≤ℤ◌, ◌<ℤ◌}
+use mir.Syntax.{w8, w16}
 use mir.Val.{SFits, to_z}
 use mir.ValLaws.{to_z-of_z, to_z_pos}
 use borrow.Author.Tests.{ltb-true, lt-ltb, eq-eqb, ne_eqb}
 use Rattle.bits.proofs.BitLaws.{choose_ind}
 use Rattle.numbers.specs.TwosComplement.{half8, holds}
-use Rattle.numbers.proofs.twos_complement.Turned.{read, turned_pos, negative_casts, negative_is, positive_is}
+use Rattle.numbers.proofs.twos_complement.Turned.{read}
+use Rattle.std.specs.Int.{int_div_euclid}
 use Rattle.thermal.specs.Quotient.{floor_by, quotient_by, QuotientDown}
 
 -- ---- so many below 0, against a number below 0
@@ -102,50 +103,28 @@ quotient_down =
       byte = quotient_byte;
     }
 
--- ---- as the code makes it, from 0 on
-up_is : (z : ℤ) (f : SFits w8 z) → lt_z (read w8 z) (pos 0) ≡ false → z ≡ pos (nat_abs (read w8 z))
-up_is (pos n) f p = ap pos (sym (positive_is w8 (pos n) f p half8))
-up_is (negsuc n) f p = let e : true ≡ false = rw (to_z-of_z w8 (negsuc n) f) at p in cc
+-- ---- as the code makes it, in 16 bits
+euclid_is : (k : ℕ) (z : ℤ) → int_div_euclid z (pos k) ≡ floor_by k z
+euclid_is k (pos n) = refl
+euclid_is k (negsuc n) = refl
 
-module _ (k : ℕ) (z : ℤ) (f : SFits w8 z) (p : lt_z (read w8 z) (pos 0) ≡ false) where
-  abbrev up : ℕ
-  up = nat_abs (read w8 z)
+floor_fits : (k : ℕ) (z : ℤ) → SFits w8 z → SFits w8 (floor_by k z)
+floor_fits k (pos n) f = record { sfits = omega (arith, f.sfits, div-le_self n k) }
+floor_fits k (negsuc n) f = record { sfits = omega (arith, f.sfits, div-le_self n k) }
 
-  pub up_fits : SFits w8 (pos (up / k))
-  up_fits =
-      let s : SFits w8 (pos up) = subst (SFits w8) (up_is z f p) f in
-      record { sfits = omega (arith, s.sfits, div-le_self up k) }
+module _ (z : ℤ) (f : SFits w8 z) where
+  wide : SFits w16 z
+  wide = record { sfits = omega (arith, f.sfits) }
 
-  pub up_by : k ≢ 0 → to_z w8 (up / k) ≡ quotient_by k z
-  up_by e = to_z_pos w8 (up / k) up_fits.sfits ∙ ap (floor_by k) (sym (up_is z f p)) ∙ sym (by_step k z e)
+  as_wide : read w16 (read w8 z) ≡ z
+  as_wide = rw (to_z-of_z w8 z f) (to_z-of_z w16 z wide)
 
--- ---- below 0, counted down from -1
-down_is : (z : ℤ) (f : SFits w8 z) → lt_z (read w8 z) (pos 0) ≡ true
-    → z ≡ negsuc (nat_abs (read w8 (negsuc 0 -ℤ read w8 z)))
-down_is (pos n) f p =
-    let e : lt_z (pos n) (pos 0) ≡ true = rw (to_z-of_z w8 (pos n) f) at p in absurd (omega (arith, ltb-true n 0 e))
-down_is (negsuc n) f p =
-    let code = negative_is w8 (negsuc n) f p half8 (lit< tt) in
-    ap negsuc (omega (arith, code, (negative_casts w8 (negsuc n) f p).1.fits, f.sfits))
+  as_byte : read w8 (read w16 z) ≡ z
+  as_byte = rw (to_z-of_z w16 z wide) (to_z-of_z w8 z f)
 
-module _ (k : ℕ) (z : ℤ) (f : SFits w8 z) (p : lt_z (read w8 z) (pos 0) ≡ true) where
-  abbrev down : ℕ
-  down = nat_abs (read w8 (negsuc 0 -ℤ read w8 z))
-
-  pub down_fits : SFits w8 (pos (down / k))
-  down_fits =
-      let s : SFits w8 (negsuc down) = subst (SFits w8) (down_is z f p) f in
-      record { sfits = omega (arith, s.sfits, div-le_self down k) }
-
-  less_is : negsuc 0 -ℤ to_z w8 (down / k) ≡ negsuc (down / k)
-  less_is = ap (λ (y : ℤ). negsuc 0 -ℤ y) (to_z_pos w8 (down / k) down_fits.sfits) ∙ turned_pos (down / k)
-
-  pub less_fits : SFits w8 (negsuc 0 -ℤ to_z w8 (down / k))
-  less_fits = rw less_is (record { sfits = down_fits.sfits })
-
-  pub down_by : k ≢ 0 → read w8 (negsuc 0 -ℤ to_z w8 (down / k)) ≡ quotient_by k z
-  down_by e =
-      to_z-of_z w8 (negsuc 0 -ℤ to_z w8 (down / k)) less_fits
-      ∙ less_is
-      ∙ ap (floor_by k) (sym (down_is z f p))
-      ∙ sym (by_step k z e)
+pub by_euclid : (k : ℕ) (z r : ℤ) → SFits w8 z → k < 256 → k ≢ 0
+    → r ≡ int_div_euclid (read w16 (read w8 z)) (to_z w16 k) → read w8 (read w16 r) ≡ quotient_by k z
+by_euclid k z r f h n e =
+    let small : k < 32768 = omega arith in
+    let q : r ≡ floor_by k z = e ∙ rw (as_wide z f, to_z_pos w16 k small) (euclid_is k z) in
+    ap (λ (x : ℤ). read w8 (read w16 x)) q ∙ as_byte (floor_by k z) (floor_fits k z f) ∙ sym (by_step k z n)

@@ -32,8 +32,7 @@ pub fn held_sum(sample: i8, offset: i8) -> i8
     sample.saturating_add(offset)
 }
 
-// Degrees divided by a step, rounded down; 0 for step 0. Below 0 the degrees and the quotient are counted down from -1,
-// since a quotient of magnitudes rounds toward zero.
+// Degrees divided by a step, rounded down; 0 for step 0.
 pub fn quotient(degrees: i8, step: u8) -> i8
     ensures equation { result ≡ quotient_by step degrees }
     ensures claims { QuotientDown }
@@ -41,11 +40,7 @@ pub fn quotient(degrees: i8, step: u8) -> i8
     if step == 0 {
         return 0;
     }
-    if degrees < 0 {
-        let down = (-1 - degrees) as u8;
-        return -1 - (down / step) as i8;
-    }
-    (degrees as u8 / step) as i8
+    (degrees as i16).div_euclid(step as i16) as i8
 }
 
 // Whether the latest quotient is another than the kept one; with step 0 it never is.

@@ -6,7 +6,7 @@ ghost use Rattle.std.specs.Prelude.{◌≡◌, false, [], ◌∷◌, ◌<◌, �
 ghost use Rattle.bits.specs.Bits.{word};
 ghost use Rattle.w83782d_map.specs.Map.{cells};
 ghost use Rattle.limits.specs.Limits.{half_level_at};
-ghost use Rattle.w83782d_conditions.specs.Conditions.{is_outside, is_slow, mode_if, output_mode};
+ghost use Rattle.w83782d_conditions.specs.Conditions.{is_outside, is_slow, mode_if};
 ghost use Rattle.w83782d_conditions.specs.Conditions.{comparison, comparison_of, remote_comparison_of};
 ghost use Rattle.w83782d_conditions.specs.ConditionParts.{compared_in};
 

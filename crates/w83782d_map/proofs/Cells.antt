@@ -1,8 +1,8 @@
 -- The code's sets of cells, and its values by their exceptions, are those of the rows.
 -- One computed test over all cells for the sets; the values by their arms. Assumes nothing.
 use mathlib.Core.Path.{◌≡◌, refl, sym, ap, ◌∙◌}
-use mathlib.Core.Bool.{Bool, true, false, not, ◌&&◌, ◌||◌, and-false, beq, true≢false}
-use mathlib.Core.List.{List, [], ◌∷◌}
+use mathlib.Core.Bool.{Bool, true, false, not, ◌||◌, and-false, beq, true≢false}
+use mathlib.Core.List.{List, [], ◌∷◌, reverse}
 use mathlib.Core.Logic.{⊎_elim}
 use Prim.Native.Nat.{ℕ, ◌+◌, ◌-◌, ◌<◌, ◌≤◌}
 use native.Mathlib.Omega.{arith}
@@ -96,18 +96,33 @@ pub present_cell : (c : ℕ) → present_at c ≡ true → c < cells
 unfolding present_at
 present_cell c e = ltb-true c cells (and_left (ltb c cells) _ e)
 
--- ---- the values of a cell, arm by arm; the keys of all arms, the last arm's first
+-- ---- the values of a cell, arm by arm; the keys of all arms
 abbrev pub stored_keys : List (List ℕ)
 stored_keys =
-    (at_bank 2 0x54 ∷ at_bank 2 0x56 ∷ []) ∷ (at_bank 1 0x54 ∷ at_bank 1 0x56 ∷ []) ∷ (at_bank 2 0x53 ∷ at_bank 2 0x55 ∷ [])
-    ∷ (at_bank 1 0x53 ∷ at_bank 1 0x55 ∷ []) ∷ (at_bank 1 0x52 ∷ at_bank 2 0x52 ∷ []) ∷ (at 0x5D ∷ [])
-    ∷ (at 0x5A ∷ at 0x5F ∷ [])
-    ∷ (at 0x5B ∷ at 0x5E ∷ []) ∷ (at 0x59 ∷ []) ∷ (at 0x57 ∷ []) ∷ (at 0x4E ∷ []) ∷ (at 0x4C ∷ []) ∷ (at 0x4B ∷ [])
-    ∷ (at 0x48 ∷ at 0x5C ∷ []) ∷ (at 0x47 ∷ []) ∷ (at 0x44 ∷ []) ∷ (at 0x43 ∷ at 0x4A ∷ at 0x4D ∷ at 0x56 ∷ [])
-    ∷ (at 0x40 ∷ []) ∷ (at 0x3A ∷ at 0x3C ∷ []) ∷ (at 0x39 ∷ at 0x3B ∷ at 0x3D ∷ [])
+    (at 0x2B ∷ at 0x2D ∷ at 0x2F ∷ at 0x31 ∷ [])
+    ∷ (at 0x2C ∷ at 0x2E ∷ at 0x30 ∷ at 0x32 ∷ [])
+    ∷ (at 0x33 ∷ at 0x35 ∷ at 0x37 ∷ [])
     ∷ (at 0x34 ∷ at 0x36 ∷ at 0x38 ∷ [])
-    ∷ (at 0x33 ∷ at 0x35 ∷ at 0x37 ∷ []) ∷ (at 0x2C ∷ at 0x2E ∷ at 0x30 ∷ at 0x32 ∷ [])
-    ∷ (at 0x2B ∷ at 0x2D ∷ at 0x2F ∷ at 0x31 ∷ [])
+    ∷ (at 0x39 ∷ at 0x3B ∷ at 0x3D ∷ [])
+    ∷ (at 0x3A ∷ at 0x3C ∷ [])
+    ∷ (at 0x40 ∷ [])
+    ∷ (at 0x43 ∷ at 0x4A ∷ at 0x4D ∷ at 0x56 ∷ [])
+    ∷ (at 0x44 ∷ [])
+    ∷ (at 0x47 ∷ [])
+    ∷ (at 0x48 ∷ at 0x5C ∷ [])
+    ∷ (at 0x4B ∷ [])
+    ∷ (at 0x4C ∷ [])
+    ∷ (at 0x4E ∷ [])
+    ∷ (at 0x57 ∷ [])
+    ∷ (at 0x59 ∷ [])
+    ∷ (at 0x5B ∷ at 0x5E ∷ [])
+    ∷ (at 0x5A ∷ at 0x5F ∷ [])
+    ∷ (at 0x5D ∷ [])
+    ∷ (at_bank 1 0x52 ∷ at_bank 2 0x52 ∷ [])
+    ∷ (at_bank 1 0x53 ∷ at_bank 1 0x55 ∷ [])
+    ∷ (at_bank 2 0x53 ∷ at_bank 2 0x55 ∷ [])
+    ∷ (at_bank 1 0x54 ∷ at_bank 1 0x56 ∷ [])
+    ∷ (at_bank 2 0x54 ∷ at_bank 2 0x56 ∷ [])
     ∷ []
 
 -- no row reaches 60h
@@ -137,9 +152,9 @@ stored_out c h =
     simp (ne_eqb c configuration (λ e. omega arith), ne_eqb c chassis_clear (λ e. omega arith))
     (sym (beyond_rows (λ r. r.writable) c h))
 
-pub stored_rest : (c : ℕ) → NoKey stored_keys c → 0x00 ≡ stored_bits c
+pub stored_rest : (c : ℕ) → NoKey (reverse stored_keys) c → 0x00 ≡ stored_bits c
 unfolding writable_at rows
-stored_rest c n = rest_arm stored_bits 0x00 stored_keys cells tt stored_out c n
+stored_rest c n = rest_arm stored_bits 0x00 (reverse stored_keys) cells tt stored_out c n
 
 -- a write that would store something is accepted, and 46h stores nothing
 stores_or_not : ℕ → Bool
@@ -163,13 +178,22 @@ clear_stores_none = refl
 
 abbrev pub power_keys : List (List ℕ)
 power_keys =
-    (at_bank 1 0x55 ∷ at_bank 2 0x55 ∷ []) ∷ (at_bank 1 0x53 ∷ at_bank 2 0x53 ∷ []) ∷ (at 0x5C ∷ [])
-    ∷ (at 0x5A ∷ at 0x5F ∷ [])
-    ∷ (at 0x5B ∷ at 0x5E ∷ []) ∷ (at 0x59 ∷ []) ∷ (at 0x58 ∷ []) ∷ (at 0x4E ∷ at 0x57 ∷ []) ∷ (at 0x4D ∷ [])
+    (at 0x40 ∷ at 0x4A ∷ at 0x4C ∷ [])
+    ∷ (at 0x47 ∷ [])
+    ∷ (at 0x48 ∷ [])
+    ∷ (at 0x49 ∷ [])
     ∷ (at 0x4B ∷ [])
-    ∷ (at 0x49 ∷ []) ∷ (at 0x48 ∷ []) ∷ (at 0x47 ∷ []) ∷ (at 0x40 ∷ at 0x4A ∷ at 0x4C ∷ [])
+    ∷ (at 0x4D ∷ [])
+    ∷ (at 0x4E ∷ at 0x57 ∷ [])
+    ∷ (at 0x58 ∷ [])
+    ∷ (at 0x59 ∷ [])
+    ∷ (at 0x5B ∷ at 0x5E ∷ [])
+    ∷ (at 0x5A ∷ at 0x5F ∷ [])
+    ∷ (at 0x5C ∷ [])
+    ∷ (at_bank 1 0x53 ∷ at_bank 2 0x53 ∷ [])
+    ∷ (at_bank 1 0x55 ∷ at_bank 2 0x55 ∷ [])
     ∷ []
 
-pub power_rest : (c : ℕ) → NoKey power_keys c → 0 ≡ power_on_at c
+pub power_rest : (c : ℕ) → NoKey (reverse power_keys) c → 0 ≡ power_on_at c
 unfolding power_on_at rows
-power_rest c n = rest_arm power_on_at 0 power_keys cells tt (λ k h. sym (beyond_rows (λ r. r.power_on) k h)) c n
+power_rest c n = rest_arm power_on_at 0 (reverse power_keys) cells tt (λ k h. sym (beyond_rows (λ r. r.power_on) k h)) c n

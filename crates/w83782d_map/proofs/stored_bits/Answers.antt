@@ -1,105 +1,107 @@
-use mathlib.Core.List.{[], ◌∷◌}
+use borrow.Author.Rules.{rules}
+use mathlib.Core.List.{[]}
+use lib.ListN.{get_or}
 use Rattle.bits.proofs.Match.{arm}
-use Rattle.w83782d_map.specs.Map.{at, at_bank, writable_at, rows}
+use Rattle.w83782d_map.specs.Map.{writable_at, rows}
 use Rattle.w83782d_map.specs.Access.{stored_bits}
-use Rattle.w83782d_map.proofs.Cells.{stored_rest}
+use Rattle.w83782d_map.proofs.Cells.{stored_keys, stored_rest}
 use Rattle.w83782d_map.proofs.stored_bits.Goals as goal
 
 pub returns-in-11 : goal.returns-in-11
 unfolding writable_at rows
-returns-in-11 c = arm stored_bits 0b1111_1111 (at 0x2B ∷ at 0x2D ∷ at 0x2F ∷ at 0x31 ∷ []) tt _ c.in-11.is
+returns-in-11 c = arm stored_bits _ (get_or stored_keys 0 []) tt _ c.in-11.is
 
 pub returns-in-12 : goal.returns-in-12
 unfolding writable_at rows
-returns-in-12 c = arm stored_bits 0b1111_1111 (at 0x2C ∷ at 0x2E ∷ at 0x30 ∷ at 0x32 ∷ []) tt _ c.in-12.is
+returns-in-12 c = arm stored_bits _ (get_or stored_keys 1 []) tt _ c.in-12.is
 
 pub returns-in-19 : goal.returns-in-19
 unfolding writable_at rows
-returns-in-19 c = arm stored_bits 0b1111_1111 (at 0x33 ∷ at 0x35 ∷ at 0x37 ∷ []) tt _ c.in-19.is
+returns-in-19 c = arm stored_bits _ (get_or stored_keys 2 []) tt _ c.in-19.is
 
 pub returns-in-20 : goal.returns-in-20
 unfolding writable_at rows
-returns-in-20 c = arm stored_bits 0b1111_1111 (at 0x34 ∷ at 0x36 ∷ at 0x38 ∷ []) tt _ c.in-20.is
+returns-in-20 c = arm stored_bits _ (get_or stored_keys 3 []) tt _ c.in-20.is
 
 pub returns-in-25 : goal.returns-in-25
 unfolding writable_at rows
-returns-in-25 c = arm stored_bits 0b1111_1111 (at 0x39 ∷ at 0x3B ∷ at 0x3D ∷ []) tt _ c.in-25.is
+returns-in-25 c = arm stored_bits _ (get_or stored_keys 4 []) tt _ c.in-25.is
 
 pub returns-in-26 : goal.returns-in-26
 unfolding writable_at rows
-returns-in-26 c = arm stored_bits 0b1111_1111 (at 0x3A ∷ at 0x3C ∷ []) tt _ c.in-26.is
+returns-in-26 c = arm stored_bits _ (get_or stored_keys 5 []) tt _ c.in-26.is
 
 pub returns-in-32 : goal.returns-in-32
 unfolding writable_at rows
-returns-in-32 c = arm stored_bits 0b0100_1011 (at 0x40 ∷ []) tt _ c.in-32.is
+returns-in-32 c = arm stored_bits _ (get_or stored_keys 6 []) tt _ c.in-32.is
 
 pub returns-in-35 : goal.returns-in-35
 unfolding writable_at rows
-returns-in-35 c = arm stored_bits 0b1111_1111 (at 0x43 ∷ at 0x4A ∷ at 0x4D ∷ at 0x56 ∷ []) tt _ c.in-35.is
+returns-in-35 c = arm stored_bits _ (get_or stored_keys 7 []) tt _ c.in-35.is
 
 pub returns-in-36 : goal.returns-in-36
 unfolding writable_at rows
-returns-in-36 c = arm stored_bits 0b0011_1111 (at 0x44 ∷ []) tt _ c.in-36.is
+returns-in-36 c = arm stored_bits _ (get_or stored_keys 8 []) tt _ c.in-36.is
 
 pub returns-in-39 : goal.returns-in-39
 unfolding writable_at rows
-returns-in-39 c = arm stored_bits 0b1111_0000 (at 0x47 ∷ []) tt _ c.in-39.is
+returns-in-39 c = arm stored_bits _ (get_or stored_keys 9 []) tt _ c.in-39.is
 
 pub returns-in-40 : goal.returns-in-40
 unfolding writable_at rows
-returns-in-40 c = arm stored_bits 0b0111_1111 (at 0x48 ∷ at 0x5C ∷ []) tt _ c.in-40.is
+returns-in-40 c = arm stored_bits _ (get_or stored_keys 10 []) tt _ c.in-40.is
 
 pub returns-in-43 : goal.returns-in-43
 unfolding writable_at rows
-returns-in-43 c = arm stored_bits 0b1111_1100 (at 0x4B ∷ []) tt _ c.in-43.is
+returns-in-43 c = arm stored_bits _ (get_or stored_keys 11 []) tt _ c.in-43.is
 
 pub returns-in-44 : goal.returns-in-44
 unfolding writable_at rows
-returns-in-44 c = arm stored_bits 0b0101_1100 (at 0x4C ∷ []) tt _ c.in-44.is
+returns-in-44 c = arm stored_bits _ (get_or stored_keys 12 []) tt _ c.in-44.is
 
 pub returns-in-46 : goal.returns-in-46
 unfolding writable_at rows
-returns-in-46 c = arm stored_bits 0b1000_0111 (at 0x4E ∷ []) tt _ c.in-46.is
+returns-in-46 c = arm stored_bits _ (get_or stored_keys 13 []) tt _ c.in-46.is
 
 pub returns-in-55 : goal.returns-in-55
 unfolding writable_at rows
-returns-in-55 c = arm stored_bits 0b1011_1111 (at 0x57 ∷ []) tt _ c.in-55.is
+returns-in-55 c = arm stored_bits _ (get_or stored_keys 14 []) tt _ c.in-55.is
 
 pub returns-in-57 : goal.returns-in-57
 unfolding writable_at rows
-returns-in-57 c = arm stored_bits 0b0111_0000 (at 0x59 ∷ []) tt _ c.in-57.is
+returns-in-57 c = arm stored_bits _ (get_or stored_keys 15 []) tt _ c.in-57.is
 
 pub returns-in-59 : goal.returns-in-59
 unfolding writable_at rows
-returns-in-59 c = arm stored_bits 0b1111_1111 (at 0x5B ∷ at 0x5E ∷ []) tt _ c.in-59.is
+returns-in-59 c = arm stored_bits _ (get_or stored_keys 16 []) tt _ c.in-59.is
 
 pub returns-in-58 : goal.returns-in-58
 unfolding writable_at rows
-returns-in-58 c = arm stored_bits 0b1111_1111 (at 0x5A ∷ at 0x5F ∷ []) tt _ c.in-58.is
+returns-in-58 c = arm stored_bits _ (get_or stored_keys 17 []) tt _ c.in-58.is
 
 pub returns-in-61 : goal.returns-in-61
 unfolding writable_at rows
-returns-in-61 c = arm stored_bits 0b1110_1111 (at 0x5D ∷ []) tt _ c.in-61.is
+returns-in-61 c = arm stored_bits _ (get_or stored_keys 18 []) tt _ c.in-61.is
 
 pub returns-in-66 : goal.returns-in-66
 unfolding writable_at rows
-returns-in-66 c = arm stored_bits 0b0001_1011 (at_bank 1 0x52 ∷ at_bank 2 0x52 ∷ []) tt _ c.in-66.is
+returns-in-66 c = arm stored_bits _ (get_or stored_keys 19 []) tt _ c.in-66.is
 
 pub returns-in-67 : goal.returns-in-67
 unfolding writable_at rows
-returns-in-67 c = arm stored_bits 0b1111_1111 (at_bank 1 0x53 ∷ at_bank 1 0x55 ∷ []) tt _ c.in-67.is
+returns-in-67 c = arm stored_bits _ (get_or stored_keys 20 []) tt _ c.in-67.is
 
 pub returns-in-83 : goal.returns-in-83
 unfolding writable_at rows
-returns-in-83 c = arm stored_bits 0b1111_1111 (at_bank 2 0x53 ∷ at_bank 2 0x55 ∷ []) tt _ c.in-83.is
+returns-in-83 c = arm stored_bits _ (get_or stored_keys 21 []) tt _ c.in-83.is
 
 pub returns-in-68 : goal.returns-in-68
 unfolding writable_at rows
-returns-in-68 c = arm stored_bits 0b1000_0000 (at_bank 1 0x54 ∷ at_bank 1 0x56 ∷ []) tt _ c.in-68.is
+returns-in-68 c = arm stored_bits _ (get_or stored_keys 22 []) tt _ c.in-68.is
 
 pub returns-in-84 : goal.returns-in-84
 unfolding writable_at rows
-returns-in-84 c = arm stored_bits 0b1000_0000 (at_bank 2 0x54 ∷ at_bank 2 0x56 ∷ []) tt _ c.in-84.is
+returns-in-84 c = arm stored_bits _ (get_or stored_keys 23 []) tt _ c.in-84.is
 
 pub returns-in_default : goal.returns-in_default
-returns-in_default c = stored_rest _ c.in_default.in_default-own.rest
+returns-in_default c = search (rules, stored_rest)

@@ -1,5 +1,6 @@
 -- Each arm's value is what the rows say at its keys, by computing; the last arm's is what they say at every other
 -- number (proofs/Cells.antt). Assumes nothing.
+use borrow.Author.Rules.{rules}
 use mathlib.Core.List.{[]}
 use lib.ListN.{get_or}
 use Rattle.bits.proofs.Match.{arm}
@@ -76,4 +77,4 @@ unfolding power_on_at content_at rows
 returns-in-99 c = arm power_on_at _ (get_or power_keys 16 []) tt _ c.in-99.is
 
 pub returns-in_default : goal.returns-in_default
-returns-in_default c = power_rest _ c.in_default.in_default-own.rest
+returns-in_default c = search (rules, power_rest)

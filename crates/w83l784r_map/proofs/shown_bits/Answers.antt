@@ -1,5 +1,6 @@
 -- Each arm's value is what the rows say at its keys, by computing; the last arm's is what they say at every other
 -- number (proofs/Cells.antt). Assumes nothing.
+use borrow.Author.Rules.{rules}
 use mathlib.Core.List.{[]}
 use lib.ListN.{get_or}
 use Rattle.bits.proofs.Match.{arm}
@@ -121,4 +122,4 @@ unfolding shown_bits content_at rows
 returns-in-98 c = arm shown_bits _ (get_or shown_keys 27 []) tt _ c.in-98.is
 
 pub returns-in_default : goal.returns-in_default
-returns-in_default c = shown_rest _ c.in_default.in_default-own.rest
+returns-in_default c = search (rules, shown_rest)

@@ -1,6 +1,8 @@
 -- SMI and standing alarms, from the bytes that reads show (rules I-2, I-4 to I-6).
 use Rattle.std.specs.Prelude.{Bool, not, ◌&&◌, List, ◌↔◌, ◌≡◌, ℕ, ◌+◌, ◌≤◌, ◌<◌, get_or}
-use Rattle.answers.specs.Answers as answers
+use Rattle.std.specs.Prelude.{Result, Ok, Err}
+use Rattle.answers.specs.declared.Refusal.{Refusal}
+use Rattle.answers.specs.declared.Refusal.TheVariants.{WrongLength}
 use Rattle.bits.specs.Bits.{choose, is_on}
 use Rattle.status.specs.Claims.{set_bits}
 use Rattle.status.specs.Status.{any_unmasked, alarm_count}
@@ -8,7 +10,6 @@ use Rattle.w83782d_map.specs.Map.{fits}
 use Rattle.w83782d_map.specs.Cells.{configuration, interrupt_status1, interrupt_status2, smi_mask1, smi_mask2}
 use Rattle.w83782d_registers.specs.Registers.{with_chassis, shown_of}
 use Rattle.w83782d_readings.specs.declared.outputs.Outputs.{Outputs}
-use Rattle.w83782d_readings.specs.declared.outputs.Outputs.TheVariants.{Shown, WrongLength}
 
 -- 41h and 42h as a read shows them, the chassis bit being the latch
 abbrev pub status1 : List ℕ → ℕ
@@ -30,13 +31,9 @@ unfoldable pub standing_alarms : List ℕ → Bool → ℕ
 standing_alarms rs chassis = alarm_count (status1 rs) (status2 rs chassis)
 
 -- ---- of any slice: one that is not the registers' 112 cells is refused as 8. decision D-01
-unfoldable pub outputs_of : List ℕ → Bool → Outputs
-outputs_of rs chassis = choose (fits rs) (Shown (smi_of rs chassis) (standing_alarms rs chassis)) WrongLength
-
--- the number of the answer table
-abbrev pub outputs_answer : Outputs → ℕ
-outputs_answer (Shown smi alarms) = 0
-outputs_answer WrongLength = answers.wrong_length
+unfoldable pub outputs_of : List ℕ → Bool → Result Outputs Refusal
+outputs_of rs chassis =
+    choose (fits rs) (Ok (record { smi = smi_of rs chassis; alarms = standing_alarms rs chassis })) (Err WrongLength)
 
 -- ---- what is claimed of the alarms that stand
 

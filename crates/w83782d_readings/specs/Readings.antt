@@ -1,6 +1,7 @@
 -- Readings of the stored values (rules R-1 to R-4).
-use Rattle.std.specs.Prelude.{List, ℕ, eqb, ℤ, pos, get_or}
-use Rattle.answers.specs.Answers as answers
+use Rattle.std.specs.Prelude.{List, ℕ, eqb, ℤ, get_or, Result, Ok, Err, ok_or}
+use Rattle.answers.specs.declared.Refusal.{Refusal}
+use Rattle.answers.specs.declared.Refusal.TheVariants.{NoChannel, WrongLength}
 use Rattle.bits.specs.Bits.{choose, is_beyond}
 use Rattle.fan.specs.Count.{value_of}
 use Rattle.fan.specs.Speed as fan
@@ -11,84 +12,54 @@ use Rattle.numbers.specs.TwosComplement.{half9, signed_of}
 use Rattle.analog.specs.Temperature.{nine_bits}
 use Rattle.limits.specs.Limits.{low_byte}
 use Rattle.analog.specs.Pwm.{pwm_parts}
-use Rattle.analog.specs.declared.voltages.Reading.{Reading}
-use Rattle.analog.specs.declared.voltages.Reading.TheVariants as reading
 use Rattle.w83782d_map.specs.Map.{fits}
 use Rattle.w83782d_store.specs.Stored.{divisor_of}
 use Rattle.w83782d_map.specs.Cells.{bank_cell, fan_count, pwm_duty1, pwm_duty2, pwm_duty3, pwm_duty4, sensor1_value, voltage}
-use Rattle.w83782d_readings.specs.declared.Temperature.{Temperature}
-use Rattle.w83782d_readings.specs.declared.Temperature.TheVariants as temperature
-use Rattle.w83782d_readings.specs.declared.Duty.{Duty}
-use Rattle.w83782d_readings.specs.declared.Duty.TheVariants as duty
-
--- the number of the answer table; a sensor other than 1 to 3 is refused as 7, as a fan is. decision D-48
-abbrev pub temperature_answer : Temperature → ℕ
-temperature_answer (temperature.HalfDegrees z) = 0
-temperature_answer temperature.Refused = answers.no_channel
-temperature_answer temperature.WrongLength = answers.wrong_length
-
--- the half degrees that are read; refused: 0
-abbrev pub temperature_value : Temperature → ℤ
-temperature_value (temperature.HalfDegrees z) = z
-temperature_value temperature.Refused = pos 0
-temperature_value temperature.WrongLength = pos 0
-
--- the number of the answer table; a PWM output other than 1 to 4 is refused as 7. decision D-24
-abbrev pub duty_answer : Duty → ℕ
-duty_answer (duty.Parts n) = 0
-duty_answer duty.Refused = answers.no_channel
-duty_answer duty.WrongLength = answers.wrong_length
-
--- the parts that are read; refused: 0
-abbrev pub duty_value : Duty → ℕ
-duty_value (duty.Parts n) = n
-duty_value duty.Refused = 0
-duty_value duty.WrongLength = 0
 
 -- ---- the readings of the registers
 
 -- the millivolts of the code stored for a channel
-abbrev pub voltage_at : List ℕ → ℕ → ℕ → ℕ → Reading
-voltage_at rs channel r5 r6 = millivolts_of channel (get_or rs (voltage channel) 0) r5 r6
+abbrev pub voltage_at : List ℕ → ℕ → ℕ → ℕ → Result ℤ Refusal
+voltage_at rs channel r5 r6 = ok_or (millivolts_of channel (get_or rs (voltage channel) 0) r5 r6) NoChannel
 
 -- R-2: by the stored count and the divisor now set; a fan other than 1 to 3 is answered 7
 unfoldable pub speed_at : List ℕ → ℕ → Speed
 speed_at rs f =
-    choose (is_beyond 3 f) speed.Refused
+    choose (is_beyond 3 f) (speed.Refused NoChannel)
     (fan.count_speed (get_or rs (fan_count f) 0) (value_of (divisor_of rs f)))
 
 -- half degrees of nine bits; sensor 1's whole degrees are eight bits, and no half below them
 abbrev pub half_degrees : ℕ → ℕ → ℤ
 half_degrees high low = signed_of half9 (nine_bits high low)
 
--- a sensor other than 1 to 3 is answered 7, as a fan is
-unfoldable pub temperature_at : List ℕ → ℕ → Temperature
+-- a sensor other than 1 to 3 is answered 7, as a fan is. decision D-48
+unfoldable pub temperature_at : List ℕ → ℕ → Result ℤ Refusal
 temperature_at rs n =
-    choose (eqb n 1) (temperature.HalfDegrees (half_degrees (get_or rs sensor1_value 0) 0))
+    choose (eqb n 1) (Ok (half_degrees (get_or rs sensor1_value 0) 0))
     (choose (eqb n 2)
-    (temperature.HalfDegrees (half_degrees (get_or rs (bank_cell 2) 0) (get_or rs (low_byte (bank_cell 2)) 0)))
+    (Ok (half_degrees (get_or rs (bank_cell 2) 0) (get_or rs (low_byte (bank_cell 2)) 0)))
     (choose (eqb n 3)
-    (temperature.HalfDegrees (half_degrees (get_or rs (bank_cell 3) 0) (get_or rs (low_byte (bank_cell 3)) 0)))
-    temperature.Refused))
+    (Ok (half_degrees (get_or rs (bank_cell 3) 0) (get_or rs (low_byte (bank_cell 3)) 0)))
+    (Err NoChannel)))
 
--- R-3: outputs 1 to 4 are 5Bh, 5Ah, 5Eh, 5Fh
-unfoldable pub duty_at : List ℕ → ℕ → Duty
+-- R-3: outputs 1 to 4 are 5Bh, 5Ah, 5Eh, 5Fh; any other is answered 7. decision D-24
+unfoldable pub duty_at : List ℕ → ℕ → Result ℕ Refusal
 duty_at rs n =
-    choose (eqb n 1) (duty.Parts (pwm_parts (get_or rs pwm_duty1 0)))
-    (choose (eqb n 2) (duty.Parts (pwm_parts (get_or rs pwm_duty2 0)))
-    (choose (eqb n 3) (duty.Parts (pwm_parts (get_or rs pwm_duty3 0)))
-    (choose (eqb n 4) (duty.Parts (pwm_parts (get_or rs pwm_duty4 0)))
-    duty.Refused)))
+    choose (eqb n 1) (Ok (pwm_parts (get_or rs pwm_duty1 0)))
+    (choose (eqb n 2) (Ok (pwm_parts (get_or rs pwm_duty2 0)))
+    (choose (eqb n 3) (Ok (pwm_parts (get_or rs pwm_duty3 0)))
+    (choose (eqb n 4) (Ok (pwm_parts (get_or rs pwm_duty4 0)))
+    (Err NoChannel))))
 
 -- ---- and of any slice: one that is not the registers' 112 cells is refused as 8, before 7. decision D-01
-unfoldable pub voltage_of : List ℕ → ℕ → ℕ → ℕ → Reading
-voltage_of rs channel r5 r6 = choose (fits rs) (voltage_at rs channel r5 r6) reading.WrongLength
+unfoldable pub voltage_of : List ℕ → ℕ → ℕ → ℕ → Result ℤ Refusal
+voltage_of rs channel r5 r6 = choose (fits rs) (voltage_at rs channel r5 r6) (Err WrongLength)
 
 unfoldable pub speed_of : List ℕ → ℕ → Speed
-speed_of rs f = choose (fits rs) (speed_at rs f) speed.WrongLength
+speed_of rs f = choose (fits rs) (speed_at rs f) (speed.Refused WrongLength)
 
-unfoldable pub temperature_of : List ℕ → ℕ → Temperature
-temperature_of rs n = choose (fits rs) (temperature_at rs n) temperature.WrongLength
+unfoldable pub temperature_of : List ℕ → ℕ → Result ℤ Refusal
+temperature_of rs n = choose (fits rs) (temperature_at rs n) (Err WrongLength)
 
-unfoldable pub duty_of : List ℕ → ℕ → Duty
-duty_of rs n = choose (fits rs) (duty_at rs n) duty.WrongLength
+unfoldable pub duty_of : List ℕ → ℕ → Result ℕ Refusal
+duty_of rs n = choose (fits rs) (duty_at rs n) (Err WrongLength)

@@ -1,16 +1,23 @@
 use borrow.Author.Rules.{rules}
-use Rattle.w83782d_readings.proofs.Answers.{reading_claims}
-use Rattle.w83782d_readings.proofs.Cases.{speed_short, no_fan_0, no_fan_4, fan_read}
+use mathlib.Core.Path.{◌≡◌, ap}
+use mathlib.Core.List.{List}
+use mathlib.Core.Bool.{true, false, ◌&&◌}
+use Prim.Native.Nat.{ℕ}
+use lib.Dec.{leb}
+use lib.ListN.{get_or}
+use Rattle.w83782d_readings.proofs.Cases.{no_fan, within, fan_read}
+use Rattle.w83782d_map.specs.Cells.{fan_count}
 use Rattle.w83782d_readings.proofs.speed.Goals as goal
 
-pub returns-then-s-ne-CELLS : goal.returns-then-s-ne-CELLS
-returns-then-s-ne-CELLS c = record { equation = search (rules, speed_short); claims = reading_claims }
+pub returns-then-not-contains-clause-equation : goal.returns-then-not-contains-clause-equation
+returns-then-not-contains-clause-equation c =
+    let t : (leb 1 c.args.fan && leb c.args.fan 3) ≡ false = search rules in
+    no_fan c.args.s.now _ c.in-Ok.ensures.1 t
 
-pub returns-then-fan-lt1 : goal.returns-then-fan-lt1
-returns-then-fan-lt1 c = record { equation = search (rules, no_fan_0); claims = reading_claims }
-
-pub returns-then-fan-gt3 : goal.returns-then-fan-gt3
-returns-then-fan-gt3 c = record { equation = search (rules, no_fan_4); claims = reading_claims }
-
-pub returns : goal.returns
-returns c = record { equation = search (rules, fan_read); claims = reading_claims }
+pub returns-clause-equation : goal.returns-clause-equation
+returns-clause-equation c =
+    let e = c.in-Ok.ensures in
+    let t : (leb 1 c.args.fan && leb c.args.fan 3) ≡ true = search rules in
+    let r = within c.args.fan t in
+    fan_read c.args.s.now _ e.1 _ _ _ _ r.0 r.1 c.divisor_field.ensures (rw e.0 at c.gathered-divisor.ensures)
+    (ap (λ (rs : List ℕ). get_or rs (fan_count c.args.fan) 0) e.0) c.speed.ensures.equation

@@ -1,10 +1,14 @@
-use borrow.Author.Rules.{rules}
-use Rattle.w83782d_readings.proofs.Answers.{reading_claims}
-use Rattle.w83782d_readings.proofs.Cases.{voltage_short, voltage_read}
+use mathlib.Core.Path.{ap, ◌∙◌}
+use mathlib.Core.List.{List}
+use Prim.Native.Nat.{ℕ}
+use lib.ListN.{get_or}
+use Rattle.w83782d_map.specs.Cells.{voltage}
+use Rattle.w83782d_readings.proofs.Cases.{voltage_read}
 use Rattle.w83782d_readings.proofs.voltage.Goals as goal
 
-pub returns-then-s-ne-CELLS : goal.returns-then-s-ne-CELLS
-returns-then-s-ne-CELLS c = record { equation = search (rules, voltage_short); claims = reading_claims }
-
-pub returns : goal.returns
-returns c = record { equation = search (rules, voltage_read); claims = reading_claims }
+pub returns-clause-equation : goal.returns-clause-equation
+returns-clause-equation c =
+    let e = c.in_ok-s.ensures in
+    c.ok_or.ensures.value
+    ∙ voltage_read c.args.s.now c.args.channel _ _ _ _ e.1
+    (c.cell-code.ensures ∙ ap (λ (rs : List ℕ). get_or rs (voltage c.args.channel) 0) e.0) c.millivolts.ensures.0

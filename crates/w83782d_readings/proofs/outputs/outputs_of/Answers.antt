@@ -1,9 +1,11 @@
 use borrow.Author.Rules.{rules}
-use Rattle.w83782d_readings.proofs.outputs.Cases.{outputs_short, outputs_shown, alarms_counted_all}
+use Rattle.w83782d_readings.proofs.outputs.Cases.{outputs_short, outputs_shown}
 use Rattle.w83782d_readings.proofs.outputs.outputs_of.Goals as goal
 
-pub returns-then-s-ne-CELLS : goal.returns-then-s-ne-CELLS
-returns-then-s-ne-CELLS c = record { equation = search (rules, outputs_short); claims = alarms_counted_all }
+pub returns-in_err-s-clause-equation : goal.returns-in_err-s-clause-equation
+returns-in_err-s-clause-equation c = search (rules, outputs_short)
 
-pub returns : goal.returns
-returns c = record { equation = search (rules, outputs_shown); claims = alarms_counted_all }
+pub returns-clause-equation : goal.returns-clause-equation
+returns-clause-equation c =
+    let e = c.in_ok-s.ensures in
+    outputs_shown c.args.s.now _ _ _ e.1 (rw e.0 at c.smi.ensures) (rw e.0 at c.standing_alarms.ensures.count)

@@ -1,2 +1,1 @@
 pub mod settings
-pub mod Cases

@@ -2,27 +2,32 @@
 -- Assumes nothing.
 use Prim.Native.Nat.{ℕ, ◌+◌, ◌*◌, ◌^◌, ◌≤◌, ◌<◌}
 use native.Mathlib.Omega.{arith}
-use mathlib.Core.Path.{◌≡◌}
-use mathlib.Core.Bool.{true, false}
+use mathlib.Core.Path.{◌≡◌, refl}
 use mathlib.Core.List.{List, append_assoc}
 use borrow.Author.Tests.{le-leb, lt-leb}
 use lib.ListN.{length}
 use lib.Seq.{sets-eq}
-use Rattle.text.specs.Text.{Put}
-use Rattle.text_push.specs.Pushed.{page, pushed, Pushes}
+use Rattle.std.specs.Prelude.{Ok, Err}
+use Rattle.text.specs.Pages.{Puts}
+use Rattle.text.specs.declared.Page.{Page}
+use Rattle.text_push.specs.declared.Full.{Full}
+use Rattle.text_push.specs.Pushed.{pushed, IsPushed, Pushes}
 
-module _ (o : List ℕ) (at : ℕ) (w : List ℕ) (s t : List ℕ) (e : ℕ) (f : Put s at w t e) where
-  pub push_fits : (p : List ℕ) (m : ℕ) → length o * 1 < 2 ^ 63 → e ≤ length o → Put o at w p m
-      → page p (record { at = e; ok = true }) ≡ pushed o at w
+-- t and u are a page of one byte before and after the same put
+module _ (old : Page) (w : List ℕ) (t u : Page) (f : Puts t w u) (e : t.at ≡ old.at) where
+  pub push_fits : (new : Page) → length old.out.now * 1 < 2 ^ 63 → u.at ≤ length old.out.now → Puts old w new
+      → IsPushed old w new (Ok tt)
   unfolding pushed
-  push_fits p m h k g =
-      let fits : at + length w ≤ length o = omega (arith, f.place) in
-      let end : e ≡ at + length w = omega (arith, f.place) in
-      rw (le-leb _ _ fits, end, g.bytes)
+  push_fits new h k g =
+      let fits : old.at + length w ≤ length old.out.now = omega (arith, f.put.place) in
+      let end : new.at ≡ old.at + length w = omega (arith, g.put.place) in
+      record { all_or_none = rw (le-leb _ _ fits, end, g.put.bytes); same = g.same }
 
-  pub push_full : length o < e → page o (record { at = at; ok = false }) ≡ pushed o at w
+  pub push_full : (r : Full) → length old.out.now < u.at → IsPushed old w old (Err r)
   unfolding pushed
-  push_full k = let full : length o < at + length w = omega (arith, f.place) in rw (lt-leb _ _ full)
+  push_full r k =
+      let full : length old.out.now < old.at + length w = omega (arith, f.put.place) in
+      record { all_or_none = rw (lt-leb _ _ full); same = refl }
 
 pub pushes : Pushes
 unfolding pushed

@@ -1,109 +1,85 @@
-// Text in a lent buffer, all or nothing: a `push` that does not fit is refused and leaves every
-// byte. Each first puts its characters into a buffer of one byte, which tells where they end.
+// Text on a page, all or nothing: a `push` that does not fit is refused and leaves every byte and the place. Each first
+// puts its characters on a page of one byte, which tells where they end.
 #![tactic(auto)]
 
-ghost use Rattle.std.specs.Prelude.{◌≡◌};
-ghost use Rattle.text_push.specs.Pushed.{page, pushed, Pushes};
+ghost use Rattle.std.specs.Prelude.{List, ℕ};
+ghost use Rattle.std.specs.Borrow.{MutBor};
+ghost use Rattle.text.specs.Pages.{Puts};
+ghost use Rattle.text.specs.declared.Page.{Page};
+ghost use Rattle.text_push.specs.Pushed.{PutsOnEach, IsPushed, Pushes};
 ghost use Rattle.text.specs.Numbers.{decimal, Decimals, places, Places, signed, Signs, signed_places};
 ghost use Rattle.text_hex.specs.Hex.{capital, small, hex, small_hex, Hexes};
 
-use text::{put_bytes, put_decimal, put_places, put_signed, put_signed_places};
+use text::Page;
 use text_hex::{put_hex, put_small_hex};
 
-// The place after what was pushed; or, where it did not fit, the place where it was to be.
-#[derive(Clone, Copy)]
-pub struct Pos {
-    pub at: usize,
-    pub ok: bool,
+// There is no room for all of what was to be pushed.
+#[derive(Clone, Copy, PartialEq, Eq, Debug)]
+pub struct Full;
+
+// What a put would put, where all of it fits.
+fn push<F: Fn(&mut Page)>(page: &mut Page, put: F) -> Result<(), Full>
+    requires { F.IsAlwaysCallable put }
+    ensures { (w : List ℕ) → PutsOnEach (λ o n. F.post put o tt n) w → IsPushed page.old w page.new result }
+{
+    let mut one = [0u8; 1];
+    let mut trial = Page {
+        out: &mut one,
+        at: page.at,
+    };
+    put(&mut trial);
+    if trial.at > page.out.len() {
+        return Err(Full);
+    }
+    put(page);
+    Ok(())
 }
 
 // The bytes of a word.
-pub fn push_bytes(out: &mut [u8], at: usize, word: &[u8]) -> Pos
-    ensures { (page out.new result ≡ pushed out.old at word.now) × Pushes }
+pub fn push_bytes(page: &mut Page, word: &[u8]) -> Result<(), Full>
+    ensures { IsPushed page.old word.now page.new result × Pushes }
 {
-    let mut none = [0u8; 1];
-    let end = put_bytes(&mut none, at, word);
-    if end <= out.len() {
-        put_bytes(out, at, word);
-        return Pos { at: end, ok: true };
-    }
-    Pos { at, ok: false }
+    push(page, |p| p.put_bytes(word))
 }
 
 // A number, without leading zeros.
-pub fn push_decimal(out: &mut [u8], at: usize, n: u64) -> Pos
-    ensures { (page out.new result ≡ pushed out.old at (decimal n)) × Decimals }
+pub fn push_decimal(page: &mut Page, n: u64) -> Result<(), Full>
+    ensures { IsPushed page.old (decimal n) page.new result × Decimals }
 {
-    let mut none = [0u8; 1];
-    let end = put_decimal(&mut none, at, n);
-    if end <= out.len() {
-        put_decimal(out, at, n);
-        return Pos { at: end, ok: true };
-    }
-    Pos { at, ok: false }
+    push(page, |p| p.put_decimal(n))
 }
 
 // A number with so many of its digits after a point; no point where they are none.
-pub fn push_places(out: &mut [u8], at: usize, n: u64, digits: u8) -> Pos
-    ensures { (page out.new result ≡ pushed out.old at (places digits n)) × Places }
+pub fn push_places(page: &mut Page, n: u64, digits: u8) -> Result<(), Full>
+    ensures { IsPushed page.old (places digits n) page.new result × Places }
 {
-    let mut none = [0u8; 1];
-    let end = put_places(&mut none, at, n, digits);
-    if end <= out.len() {
-        put_places(out, at, n, digits);
-        return Pos { at: end, ok: true };
-    }
-    Pos { at, ok: false }
+    push(page, |p| p.put_places(n, digits))
 }
 
 // A signed number, "-" before one below 0.
-pub fn push_signed(out: &mut [u8], at: usize, z: i64) -> Pos
-    ensures { (page out.new result ≡ pushed out.old at (signed z)) × Signs }
+pub fn push_signed(page: &mut Page, z: i64) -> Result<(), Full>
+    ensures { IsPushed page.old (signed z) page.new result × Signs }
 {
-    let mut none = [0u8; 1];
-    let end = put_signed(&mut none, at, z);
-    if end <= out.len() {
-        put_signed(out, at, z);
-        return Pos { at: end, ok: true };
-    }
-    Pos { at, ok: false }
+    push(page, |p| p.put_signed(z))
 }
 
 // A signed number with so many of its digits after a point.
-pub fn push_signed_places(out: &mut [u8], at: usize, z: i64, digits: u8) -> Pos
-    ensures { page out.new result ≡ pushed out.old at (signed_places digits z) }
+pub fn push_signed_places(page: &mut Page, z: i64, digits: u8) -> Result<(), Full>
+    ensures { IsPushed page.old (signed_places digits z) page.new result }
 {
-    let mut none = [0u8; 1];
-    let end = put_signed_places(&mut none, at, z, digits);
-    if end <= out.len() {
-        put_signed_places(out, at, z, digits);
-        return Pos { at: end, ok: true };
-    }
-    Pos { at, ok: false }
+    push(page, |p| p.put_signed_places(z, digits))
 }
 
 // A byte as two digits of base 16, in capitals.
-pub fn push_hex(out: &mut [u8], at: usize, byte: u8) -> Pos
-    ensures { (page out.new result ≡ pushed out.old at (hex byte)) × Hexes capital }
+pub fn push_hex(page: &mut Page, byte: u8) -> Result<(), Full>
+    ensures { IsPushed page.old (hex byte) page.new result × Hexes capital }
 {
-    let mut none = [0u8; 1];
-    let end = put_hex(&mut none, at, byte);
-    if end <= out.len() {
-        put_hex(out, at, byte);
-        return Pos { at: end, ok: true };
-    }
-    Pos { at, ok: false }
+    push(page, |p| put_hex(p, byte))
 }
 
 // A byte as two digits of base 16, in small letters.
-pub fn push_small_hex(out: &mut [u8], at: usize, byte: u8) -> Pos
-    ensures { (page out.new result ≡ pushed out.old at (small_hex byte)) × Hexes small }
+pub fn push_small_hex(page: &mut Page, byte: u8) -> Result<(), Full>
+    ensures { IsPushed page.old (small_hex byte) page.new result × Hexes small }
 {
-    let mut none = [0u8; 1];
-    let end = put_small_hex(&mut none, at, byte);
-    if end <= out.len() {
-        put_small_hex(out, at, byte);
-        return Pos { at: end, ok: true };
-    }
-    Pos { at, ok: false }
+    push(page, |p| put_small_hex(p, byte))
 }

@@ -1,9 +1,6 @@
-use Rattle.text_push.proofs.Pushes.{push_fits, push_full, pushes}
+use Rattle.text_push.proofs.Pushes.{pushes}
 use borrow.Author.Rules.{rules}
 use Rattle.text_push.proofs.push_bytes.Goals as goal
 
-pub returns-then-end-out : goal.returns-then-end-out
-returns-then-end-out c = (search (rules, push_fits), pushes)
-
 pub returns : goal.returns
-returns c = (search (rules, push_full), pushes)
+returns c = (c.push.ensures c.args.word.now (λ o n e. search rules), pushes)

@@ -1,10 +1,7 @@
-use Rattle.text_push.proofs.Pushes.{push_fits, push_full}
+use Rattle.text.specs.Numbers.{places}
 use Rattle.text.proofs.Point.{all_places}
 use borrow.Author.Rules.{rules}
 use Rattle.text_push.proofs.push_places.Goals as goal
 
-pub returns-then-end-out : goal.returns-then-end-out
-returns-then-end-out c = (search (rules, push_fits), all_places)
-
 pub returns : goal.returns
-returns c = (search (rules, push_full), all_places)
+returns c = (c.push.ensures (places c.args.digits c.args.n) (λ o n e. search rules), all_places)

@@ -10,7 +10,9 @@ use lib.Dec.{T, eqb, eqb→eq}
 use lib.ListN.{take, drop}
 use Rattle.bits.proofs.Every.{both, both_left, both_right, every, every_at}
 use Rattle.text.proofs.Puts.{◌then◌}
-use Rattle.text.specs.Text.{ascii, Put}
+use Rattle.text.specs.Text.{ascii}
+use Rattle.text.specs.Pages.{Puts}
+use Rattle.text.specs.declared.Page.{Page}
 use Rattle.w83782d_names.specs.Names.{Named, no_register, find}
 use Rattle.w83782d_names.specs.Rows.{row_of, trimmed, EndOf, sensor_rows, sensor_name}
 
@@ -38,12 +40,12 @@ same_from f g first n t i h k =
     rw e at (same_is (f (first + (i - first))) (g (first + (i - first))) at_row)
 
 -- ---- as it is put
-pub put_same : (o p w v : List ℕ) (at m : ℕ) → w ≡ v → Put o at w p m → Put o at v p m
-put_same o p w v at m e f = rw e at f
+pub put_same : (o p : Page) (w v : List ℕ) → w ≡ v → Puts o w p → Puts o v p
+put_same o p w v e f = rw e at f
 
-pub put_trimmed : (o p t : List ℕ) (at m end width row : ℕ) → EndOf t (row * width) (row * width + width) end
-    → Put o at (take (end - row * width) (drop (row * width) t)) p m → Put o at (trimmed (row_of t width row)) p m
-put_trimmed o p t at m end width row e f =
+pub put_trimmed : (o p : Page) (t : List ℕ) (end width row : ℕ) → EndOf t (row * width) (row * width + width) end
+    → Puts o (take (end - row * width) (drop (row * width) t)) p → Puts o (trimmed (row_of t width row)) p
+put_trimmed o p t end width row e f =
     let w : row * width + width - row * width ≡ width = omega arith in
     rw (e.bytes, w) at f
 
@@ -57,19 +59,19 @@ has_names t width first names n =
     every (λ k. same (row_for t width first (first + k)) (ascii (find names (first + k)))) n
 
 pub put_named : (first width n : ℕ) (names : List Named) (i : ℕ) → (first ≤ i) × (i < first + n)
-    → (t o p : List ℕ) (at m : ℕ) → Put o at (row_for t width first i) p m → T (has_names t width first names n)
-    → Put o at (ascii (find names i)) p m
-put_named first width n names i h t o p at m f e =
-    put_same o p _ _ at m (same_from (row_for t width first) (λ i. ascii (find names i)) first n e i h.0 h.1) f
+    → (t : List ℕ) (o p : Page) → Puts o (row_for t width first i) p → T (has_names t width first names n)
+    → Puts o (ascii (find names i)) p
+put_named first width n names i h t o p f e =
+    put_same o p _ _ (same_from (row_for t width first) (λ i. ascii (find names i)) first n e i h.0 h.1) f
 
 -- ---- a sensor's register
 module _ (s : List ℕ) (i : ℕ) where
-  pub put_no_sensor : (o p : List ℕ) (at m : ℕ) → 0x56 < i → Put o at (ascii no_register) p m
-      → Put o at (sensor_name s i) p m
+  pub put_no_sensor : (o p : Page) → 0x56 < i → Puts o (ascii no_register) p
+      → Puts o (sensor_name s i) p
   unfolding sensor_name
-  put_no_sensor o p at m h f = rw (lt-ltb _ _ h) f
+  put_no_sensor o p h f = rw (lt-ltb _ _ h) f
 
-  pub put_sensor_name : (o p q : List ℕ) (at l m : ℕ) → i ≤ 0x56 → Put o at s p l
-      → Put p l (ascii (find sensor_rows i)) q m → Put o at (sensor_name s i) q m
+  pub put_sensor_name : (o p q : Page) → i ≤ 0x56 → Puts o s p
+      → Puts p (ascii (find sensor_rows i)) q → Puts o (sensor_name s i) q
   unfolding sensor_name
-  put_sensor_name o p q at l m h f g = rw (le-ltb _ _ h) (f then g)
+  put_sensor_name o p q h f g = rw (le-ltb _ _ h) (f then g)

@@ -1,15 +1,16 @@
-// The data sheet's names of the registers, put into a lent buffer. A table is one literal with a row for each index, a
+// The data sheet's names of the registers, put on a page. A table is one literal with a row for each index, a
 // name and spaces up to the table's width. A check takes such a literal at once; a match
 // with a put in each arm takes it nearly half a second for each of the 71 names.
 #![tactic(auto)]
 
 ghost use Rattle.std.specs.Prelude.{◌+◌, ◌*◌, ◌≤◌, ◌<◌, length};
-ghost use Rattle.text.specs.Text.{ascii, Put};
+ghost use Rattle.text.specs.Text.{ascii};
+ghost use Rattle.text.specs.Pages.{Puts};
 ghost use Rattle.w83782d_names.specs.Names.{find, reading_names, control_names, bank0_names};
 ghost use Rattle.w83782d_names.specs.Names.{bank4_names, banked, name_of, Names};
 ghost use Rattle.w83782d_names.specs.Rows.{row_of, trimmed, EndOf, sensor_name};
 
-use text::put_bytes;
+use text::Page;
 
 // 20h to 3Fh.
 const READINGS: [u8; 32 * 24] = *b"\
@@ -129,94 +130,81 @@ fn end_of(table: &[u8], from: usize, to: usize) -> usize
 }
 
 // A row of a table, without the spaces behind its name.
-fn put_row(out: &mut [u8], at: usize, table: &[u8], width: u8, row: u8) -> usize
+fn put_row(page: &mut Page, table: &[u8], width: u8, row: u8)
     requires { (row + 1) * width ≤ length table.now }
-    ensures { Put out.old at (trimmed (row_of table.now width row)) out.new result }
+    ensures { Puts page.old (trimmed (row_of table.now width row)) page.new }
 {
     let from = row as usize * width as usize;
     let end = end_of(table, from, from + width as usize);
-    put_bytes(out, at, &table[from..end])
+    page.put_bytes(&table[from..end]);
 }
 
-fn put_reading(out: &mut [u8], at: usize, index: u8) -> usize
+fn put_reading(page: &mut Page, index: u8)
     requires { (0x20 ≤ index) × (index < 0x40) }
-    ensures { Put out.old at (ascii (find reading_names index)) out.new result }
+    ensures { Puts page.old (ascii (find reading_names index)) page.new }
 {
-    put_row(out, at, &READINGS, 24, index - 0x20)
+    put_row(page, &READINGS, 24, index - 0x20);
 }
 
-fn put_control(out: &mut [u8], at: usize, index: u8) -> usize
+fn put_control(page: &mut Page, index: u8)
     requires { (0x40 ≤ index) × (index < 0x50) }
-    ensures { Put out.old at (ascii (find control_names index)) out.new result }
+    ensures { Puts page.old (ascii (find control_names index)) page.new }
 {
-    put_row(out, at, &CONTROLS, 27, index - 0x40)
+    put_row(page, &CONTROLS, 27, index - 0x40);
 }
 
-fn put_bank_0(out: &mut [u8], at: usize, index: u8) -> usize
+fn put_bank_0(page: &mut Page, index: u8)
     requires { (0x50 ≤ index) × (index < 0x60) }
-    ensures { Put out.old at (ascii (find bank0_names index)) out.new result }
+    ensures { Puts page.old (ascii (find bank0_names index)) page.new }
 {
-    put_row(out, at, &BANK_0, 25, index - 0x50)
+    put_row(page, &BANK_0, 25, index - 0x50);
 }
 
 // A register of the bank of sensor 2 or 3, behind the sensor's name.
-fn put_sensor(out: &mut [u8], at: usize, sensor: &[u8], index: u8) -> usize
+fn put_sensor(page: &mut Page, sensor: &[u8], index: u8)
     requires { (0x50 ≤ index) × (index < 0x60) }
-    ensures { Put out.old at (sensor_name sensor.now index) out.new result }
+    ensures { Puts page.old (sensor_name sensor.now index) page.new }
 {
     if index > 0x56 {
-        return put_bytes(out, at, b"no register");
+        page.put_bytes(b"no register");
+        return;
     }
-    let next = put_bytes(out, at, sensor);
-    put_row(out, next, &SENSOR, 20, index - 0x50)
+    page.put_bytes(sensor);
+    put_row(page, &SENSOR, 20, index - 0x50);
 }
 
-fn put_bank_4(out: &mut [u8], at: usize, index: u8) -> usize
+fn put_bank_4(page: &mut Page, index: u8)
     requires { (0x50 ≤ index) × (index < 0x60) }
-    ensures { Put out.old at (ascii (find bank4_names index)) out.new result }
+    ensures { Puts page.old (ascii (find bank4_names index)) page.new }
 {
-    put_row(out, at, &BANK_4, 18, index - 0x50)
+    put_row(page, &BANK_4, 18, index - 0x50);
 }
 
 // 50h to 5Fh, by the bank.
-fn put_banked(out: &mut [u8], at: usize, bank: u8, index: u8) -> usize
+fn put_banked(page: &mut Page, bank: u8, index: u8)
     requires { (0x50 ≤ index) × (index < 0x60) }
-    ensures { Put out.old at (ascii (banked bank index)) out.new result }
+    ensures { Puts page.old (ascii (banked bank index)) page.new }
 {
-    if bank == 0 {
-        return put_bank_0(out, at, index);
+    match bank {
+        0 => put_bank_0(page, index),
+        1 => put_sensor(page, b"temperature 2 ", index),
+        2 => put_sensor(page, b"temperature 3 ", index),
+        4 => put_bank_4(page, index),
+        _ => page.put_bytes(b"no such bank"),
     }
-    if bank == 1 {
-        return put_sensor(out, at, b"temperature 2 ", index);
-    }
-    if bank == 2 {
-        return put_sensor(out, at, b"temperature 3 ", index);
-    }
-    if bank == 4 {
-        return put_bank_4(out, at, index);
-    }
-    put_bytes(out, at, b"no such bank")
 }
 
 // The name of the register that an index reaches while a bank is selected; "no register" or "no such bank" where it
 // reaches none.
-pub fn put_name(out: &mut [u8], at: usize, bank: u8, index: u8) -> usize
-    ensures { (Put out.old at (name_of bank index) out.new result) × Names }
+pub fn put_name(page: &mut Page, bank: u8, index: u8)
+    ensures { (Puts page.old (name_of bank index) page.new) × Names }
 {
-    if index < 0x20 {
-        return put_bytes(out, at, b"no register");
+    match index {
+        0x00..=0x1f => page.put_bytes(b"no register"),
+        0x20..=0x3f => put_reading(page, index),
+        0x40..=0x4f => put_control(page, index),
+        0x50..=0x5f => put_banked(page, bank, index),
+        0x60..=0x7f => put_reading(page, index - 0x40),
+        _ => page.put_bytes(b"no register"),
     }
-    if index < 0x40 {
-        return put_reading(out, at, index);
-    }
-    if index < 0x50 {
-        return put_control(out, at, index);
-    }
-    if index < 0x60 {
-        return put_banked(out, at, bank, index);
-    }
-    if index < 0x80 {
-        return put_reading(out, at, index - 0x40);
-    }
-    put_bytes(out, at, b"no register")
 }

@@ -6,4 +6,4 @@ use Rattle.w83782d_names.proofs.put_bank_4.Goals as goal
 pub returns : goal.returns
 unfolding bank4_names trimmed
 returns c =
-    put_named 0x50 18 16 bank4_names c.args.index c.requires _ _ _ _ _ c.put_row.ensures tt
+    put_named 0x50 18 16 bank4_names c.args.index c.requires _ _ _ c.put_row.ensures tt

@@ -6,4 +6,4 @@ use Rattle.w83782d_names.proofs.put_reading.Goals as goal
 pub returns : goal.returns
 unfolding reading_names trimmed
 returns c =
-    put_named 0x20 24 32 reading_names c.args.index c.requires _ _ _ _ _ c.put_row.ensures tt
+    put_named 0x20 24 32 reading_names c.args.index c.requires _ _ _ c.put_row.ensures tt

@@ -8,46 +8,42 @@ use native.Mathlib.Omega.{arith}
 use borrow.Author.Tests.{eq-eqb, ne_eqb}
 use lib.Bits.{bit_or, or_lt}
 use lib.Dec.{eqb, lit<, lit≤}
-use lib.ListN.{get_or, length, set}
+use lib.ListN.{get_or, length}
+use Rattle.std.specs.Prelude.{Ok}
+use Rattle.answers.specs.declared.Refusal.{Refusal}
+use Rattle.answers.specs.Refusals.{refusal_number}
+use Rattle.answers.proofs.Refusals.{is_refused}
 use Rattle.bits.specs.Bits.{bit, is_on, choose, flag_of, word}
 use Rattle.bits.proofs.BitLaws.{or_bit, same_byte}
 use Rattle.bits.proofs.Flags.{word_bit}
-use Rattle.sensor.specs.Sensor.{remote, armed, status_of, output_of}
-use Rattle.sensor.specs.declared.Mode.{Mode}
+use Rattle.sensor.specs.Sensor.{armed, status_of}
 use Rattle.sensor.specs.declared.Status.{Status}
-use Rattle.sensor.specs.declared.Output.{Output}
-use Rattle.sensor.specs.declared.Remote.{Remote}
 use Rattle.status.specs.Status.{status_bits, crossed_of}
+use Rattle.status.specs.declared.StatusBits.{StatusBits}
 use Rattle.status.proofs.Crossings.{crosses, crossed_lt}
 use Rattle.w83782d_layout.specs.declared.samples.Sample.{Sample}
 use Rattle.w83782d_latches.specs.declared.Latches.{Latches}
 use Rattle.w83782d_latches.specs.Effects.{remote_of}
 use Rattle.w83782d_map.specs.Map.{cells}
-use Rattle.w83782d_map.specs.Cells.{interrupt_status1, interrupt_status2, real_time_status1, real_time_status2}
+use Rattle.w83782d_map.specs.Cells.{real_time_status1, real_time_status2}
+use Rattle.w83782d_bus.specs.declared.Outcome.{Outcome}
 use Rattle.w83782d_bus.specs.Bus.{state, sized, outcome_in}
 use Rattle.w83782d_store.specs.Stored.{stored_readings, sample_answer}
 use Rattle.w83782d_store.specs.StoredParts.{stored_in}
 use Rattle.w83782d_store.proofs.Rules.{stored_in_law}
 use Rattle.w83782d_sample.specs.declared.Step.{Step}
 use Rattle.w83782d_sample.specs.declared.Evaluation.{Evaluation}
-use Rattle.w83782d_sample.specs.declared.Latching.{Latching}
-use Rattle.w83782d_sample.specs.declared.Sampled.{Sampled}
-use Rattle.w83782d_conditions.specs.declared.Comparison.{Comparison}
+use Rattle.w83782d_conditions.specs.declared.RemoteComparison.{RemoteComparison}
 use Rattle.w83782d_conditions.specs.declared.Compared.{Compared}
-use Rattle.w83782d_conditions.specs.Conditions.{is_outside, is_above, is_slow, output_mode, comparison_of, compared_of}
+use Rattle.w83782d_conditions.specs.Conditions.{is_outside, is_above, is_slow, comparison_of}
+use Rattle.w83782d_conditions.specs.Conditions.{remote_comparison_of, compared_of}
 use Rattle.w83782d_conditions.specs.ConditionParts.{compared_in}
 use Rattle.w83782d_conditions.proofs.Rules.{not_one}
 use Rattle.w83782d_sample.specs.Sample.{status_at, output_at, was_slow, remote_after, status_registers}
 use Rattle.w83782d_sample.specs.Sample.{stepped_latches, sample_of, latched_of}
-use Rattle.w83782d_sample.specs.SampleParts.{remote_step, Evaluates, SetsStatus, outcome_of, refused_of, latched_in}
+use Rattle.w83782d_sample.specs.SampleParts.{remote_step, Evaluates, with_status, refused_of, bits_of, latched_in}
 
 -- ---- the steps
-pub remote_stepped : (s : Comparison) (o : Mode) (r : Remote) (st : Status) (out : Output)
-    → st ≡ status_of s.mode r.status s.above s.below → out ≡ output_of o r.output s.above s.below
-    → record { remote = remote st.mark out; latched = st.latched } ≡ remote_step s o r
-unfolding remote_step
-remote_stepped s o r st out e f = rw (e, f)
-
 -- what is found, of registers of 112 cells, and the steps in the numbers of the definition
 found : (rs : List ℕ) → length rs ≡ cells → (c : Compared) → c ≡ compared_in rs → c ≡ compared_of rs
 found rs h c e = e ∙ simp (eq-eqb (length rs) cells h)
@@ -60,13 +56,13 @@ module _ (rs : List ℕ) (l : Latches) where
 
   -- sensors 2 and 3, over the number
   module _ (n : ℕ) (h : 2 ≤ n) (x : Step)
-      (e : x ≡ remote_step (comparison_of rs n) (output_mode rs n) (remote_of l n)) where
+      (e : x ≡ remote_step (remote_comparison_of rs n) (remote_of l n)) where
     latched_n : x.latched ≡ (status_at rs l n).latched
-    unfolding remote_step status_at comparison_of
+    unfolding remote_step status_at remote_comparison_of comparison_of
     latched_n = simp (e, not_one n h)
 
     remote_n : x.remote ≡ remote_after rs l n
-    unfolding remote_step status_at output_at comparison_of
+    unfolding remote_step status_at output_at remote_comparison_of comparison_of
     remote_n = simp (e, not_one n h)
 
 -- ---- the bytes: the sensors' bits joined to those of rails and fans, bit by bit
@@ -177,8 +173,8 @@ short a b c d e f = refl
 
 evaluation_of : (rs : List ℕ) (l : Latches) (one : Status) (two three : Step) (w1 w2 r1 r2 x1 x2 l1 l2 : ℕ)
     → one ≡ status_of (comparison_of rs 1).mode l.sensor1 (comparison_of rs 1).above (comparison_of rs 1).below
-    → two ≡ remote_step (comparison_of rs 2) (output_mode rs 2) (get_or l.remote 0 armed)
-    → three ≡ remote_step (comparison_of rs 3) (output_mode rs 3) (get_or l.remote 1 armed)
+    → two ≡ remote_step (remote_comparison_of rs 2) (get_or l.remote 0 armed)
+    → three ≡ remote_step (remote_comparison_of rs 3) (get_or l.remote 1 armed)
     → w1 ≡ word (is_outside rs 0 ∷ is_outside rs 1 ∷ is_outside rs 2 ∷ is_outside rs 3 ∷ false ∷ false ∷ is_slow rs 1
     ∷ is_slow rs 2 ∷ [])
     → w2 ≡ word (is_outside rs 4 ∷ is_outside rs 5 ∷ is_outside rs 6 ∷ is_slow rs 3 ∷ false ∷ false ∷ false ∷ false ∷ [])
@@ -190,92 +186,80 @@ evaluation_of : (rs : List ℕ) (l : Latches) (one : Status) (two three : Step) 
     → l2 ≡ word (false ∷ false ∷ false ∷ false ∷ false ∷ three.latched ∷ false ∷ false ∷ [])
     → Evaluates rs l
     (record {
-      real1 = bit_or w1 r1;
-      real2 = bit_or w2 r2;
-      latched1 = bit_or x1 l1;
-      latched2 = bit_or x2 l2;
+      real = status_bits (bit_or w1 r1) (bit_or w2 r2);
+      latched = status_bits (bit_or x1 l1) (bit_or x2 l2);
       latches =
           record { chassis = l.chassis; sensor1 = one.mark; remote = two.remote ∷ three.remote ∷ [] };
     })
 unfolding stepped_latches
 evaluation_of rs l one two three w1 w2 r1 r2 x1 x2 l1 l2 e1 e2 e3 d1 d2 f1 f2 y1 y2 g1 g2 =
     record {
-      real1 = ap₂ bit_or d1 f1 ∙ joined _ _ _ _ _ _ _ _;
-      real2 = ap₂ bit_or d2 f2 ∙ joined _ _ _ _ false _ false false ∙ short _ _ _ _ _ _;
-      latched1 =
-          ap₂ bit_or (y1 ∙ ap (crossed_of _ 0b1100_0000) d1 ∙ crossed_1 rs _ _ _ _ _ _) g1
+      real =
+          ap₂ status_bits (ap₂ bit_or d1 f1 ∙ joined _ _ _ _ _ _ _ _)
+          (ap₂ bit_or d2 f2 ∙ joined _ _ _ _ false _ false false ∙ short _ _ _ _ _ _);
+      latched =
+          ap₂ status_bits
+          (ap₂ bit_or (y1 ∙ ap (crossed_of _ 0b1100_0000) d1 ∙ crossed_1 rs _ _ _ _ _ _) g1
           ∙ joined _ _ _ _ one.latched two.latched _ _
-          ∙ simp (status_1 rs l one e1, latched_n rs l 2 (lit≤ tt) two e2);
-      latched2 =
-          ap₂ bit_or (y2 ∙ ap (crossed_of _ 0b0000_1000) d2 ∙ crossed_2 rs _ _ _ _) g2
+          ∙ simp (status_1 rs l one e1, latched_n rs l 2 (lit≤ tt) two e2))
+          (ap₂ bit_or (y2 ∙ ap (crossed_of _ 0b0000_1000) d2 ∙ crossed_2 rs _ _ _ _) g2
           ∙ joined _ _ _ _ false three.latched false false
-          ∙ simp (latched_n rs l 3 (lit≤ tt) three e3) (short _ _ _ _ _ _);
+          ∙ simp (latched_n rs l 3 (lit≤ tt) three e3) (short _ _ _ _ _ _));
       latches = simp (status_1 rs l one e1, remote_n rs l 2 (lit≤ tt) two e2, remote_n rs l 3 (lit≤ tt) three e3);
     }
 
-pub evaluation : (rs : List ℕ) (l : Latches) (c : Compared) (one : Status) (two three : Step) (r1 r2 x1 x2 l1 l2 : ℕ)
-    → length rs ≡ cells → c ≡ compared_in rs
-    → one ≡ status_of c.one.mode l.sensor1 c.one.above c.one.below
-    → two ≡ remote_step c.two c.output2 (get_or l.remote 0 armed)
-    → three ≡ remote_step c.three c.output3 (get_or l.remote 1 armed)
-    → r1 ≡ word (false ∷ false ∷ false ∷ false ∷ c.one.above ∷ c.two.above ∷ false ∷ false ∷ [])
-    → r2 ≡ word (false ∷ false ∷ false ∷ false ∷ false ∷ c.three.above ∷ false ∷ false ∷ [])
+pub evaluation : (rs : List ℕ) (l : Latches) (c : Compared) (d : RemoteComparison) (one : Status) (two three : Step)
+    (r1 r2 x1 x2 l1 l2 : ℕ) → length rs ≡ cells → c ≡ compared_in rs
+    → one ≡ status_of c.sensor1.mode l.sensor1 c.sensor1.above c.sensor1.below
+    → two ≡ remote_step (get_or c.remote 0 d) (get_or l.remote 0 armed)
+    → three ≡ remote_step (get_or c.remote 1 d) (get_or l.remote 1 armed)
+    → r1 ≡ word (false ∷ false ∷ false ∷ false ∷ c.sensor1.above ∷ (get_or c.remote 0 d).status.above ∷ false ∷ false ∷ [])
+    → r2 ≡ word (false ∷ false ∷ false ∷ false ∷ false ∷ (get_or c.remote 1 d).status.above ∷ false ∷ false ∷ [])
     → x1 ≡ crossed_of (get_or rs real_time_status1 0) 0b1100_0000 c.first
     → x2 ≡ crossed_of (get_or rs real_time_status2 0) 0b0000_1000 c.second
     → l1 ≡ word (false ∷ false ∷ false ∷ false ∷ one.latched ∷ two.latched ∷ false ∷ false ∷ [])
     → l2 ≡ word (false ∷ false ∷ false ∷ false ∷ false ∷ three.latched ∷ false ∷ false ∷ [])
     → Evaluates rs l
     (record {
-      real1 = bit_or c.first r1;
-      real2 = bit_or c.second r2;
-      latched1 = bit_or x1 l1;
-      latched2 = bit_or x2 l2;
+      real = status_bits (bit_or c.first r1) (bit_or c.second r2);
+      latched = status_bits (bit_or x1 l1) (bit_or x2 l2);
       latches =
           record { chassis = l.chassis; sensor1 = one.mark; remote = two.remote ∷ three.remote ∷ [] };
     })
-unfolding compared_of comparison_of
-evaluation rs l c one two three r1 r2 x1 x2 l1 l2 h e e1 e2 e3 f1 f2 y1 y2 g1 g2 =
+unfolding compared_of remote_comparison_of comparison_of
+evaluation rs l c d one two three r1 r2 x1 x2 l1 l2 h e e1 e2 e3 f1 f2 y1 y2 g1 g2 =
     let k = found rs h c e in
     rw k (evaluation_of rs l one two three _ _ r1 r2 x1 x2 l1 l2 (rw k at e1) (rw k at e2) (rw k at e3) refl refl
     (rw k at f1) (rw k at f2) (rw k at y1) (rw k at y2) g1 g2)
 
 -- ---- four stores are the list of status_stores
-pub status_set : (rs : List ℕ) (l : Latches) (j : Evaluation) → Evaluates rs l j
-    → SetsStatus rs l
-    (set (set (set (set rs interrupt_status1 (bit_or (get_or rs interrupt_status1 0) j.latched1)) interrupt_status2
-    (bit_or (get_or rs interrupt_status2 0) j.latched2)) real_time_status1 j.real1) real_time_status2 j.real2)
-    (record { latches = j.latches; latched = status_bits j.latched1 j.latched2 })
-unfolding status_registers
-status_set rs l j e =
-    record {
-      latches = e.latches;
-      registers = rw (e.latched1, e.latched2, e.real1, e.real2);
-      latched = rw (e.latched1, e.latched2);
-    }
+status_set : (rs : List ℕ) (l : Latches) (j : Evaluation) → Evaluates rs l j
+    → with_status rs j.real j.latched ≡ status_registers rs l
+unfolding with_status status_registers
+status_set rs l j e = rw (e.real, e.latched)
 
--- ---- the sample
-module _ (rs : List ℕ) (l : Latches) (x : Sample) where
+-- ---- the sample, on cells that are those of the slice
+module _ (rs qs : List ℕ) (l : Latches) (x : Sample) (h : length rs ≡ cells) (c : qs ≡ rs) where
   -- what it left and what it returned
-  abbrev IsSampled : List ℕ → Sampled → Type 0
-  IsSampled ts r = (outcome_in ts (outcome_of r) ≡ sized rs l (sample_of (state rs l) x)) × (r.latched ≡ latched_in rs l x)
+  abbrev IsSampled : List ℕ → Outcome StatusBits → Type 0
+  IsSampled ts o = (outcome_in ts o ≡ sized rs l (sample_of (state rs l) x)) × (bits_of o.answer ≡ latched_in rs l x)
 
-  pub sample_short : (r : Sampled) → r ≡ refused_of l 8 → (length rs ≡ cells → ⊥) → IsSampled rs r
-  sample_short r e n = rw e (simp (ne_eqb (length rs) cells n), simp (ne_eqb (length rs) cells n))
+  pub sample_refused : (r : Refusal) (o : Outcome StatusBits) → refusal_number r ≡ sample_answer qs x
+      → o ≡ refused_of l r → IsSampled qs o
+  unfolding sample_of latched_of
+  sample_refused r o e f =
+      let n = ne_eqb (refusal_number r) 0 (is_refused r) in
+      let a : refusal_number r ≡ sample_answer rs x = rw c at e in
+      rw (f, c) (simp (eq-eqb (length rs) cells h, ← a, n), simp (eq-eqb (length rs) cells h, ← a, n))
 
-  module _ (h : length rs ≡ cells) (a : ℕ) (e : a ≡ sample_answer rs x) where
-    pub sample_refused : (r : Sampled) → r ≡ refused_of l a → (a ≡ 0 → ⊥) → IsSampled rs r
-    unfolding sample_of latched_of
-    sample_refused r q n =
-        rw q (
-          simp (eq-eqb (length rs) cells h, ← e, ne_eqb a 0 n),
-          simp (eq-eqb (length rs) cells h, ← e, ne_eqb a 0 n),
-        )
-
-    pub sample_accepted : (ts us : List ℕ) (m : Latching) → a ≡ 0 → ts ≡ stored_in rs x → SetsStatus ts l us m
-        → IsSampled us (record { latches = m.latches; answer = 0; latched = m.latched })
-    unfolding sample_of latched_of
-    sample_accepted ts us m z f g =
-        let q : ts ≡ stored_readings rs x = f ∙ sym (stored_in_law rs x h) in (
-          simp (eq-eqb (length rs) cells h, ← e, eq-eqb a 0 z, ← q, ← g.latches, ← g.registers),
-          simp (eq-eqb (length rs) cells h, ← e, eq-eqb a 0 z, ← q, ← g.latched),
-        )
+  pub sample_accepted : (ts us : List ℕ) (j : Evaluation) → 0 ≡ sample_answer qs x → ts ≡ stored_in qs x
+      → Evaluates ts l j → us ≡ with_status ts j.real j.latched
+      → IsSampled us (record { latches = j.latches; answer = Ok j.latched })
+  unfolding sample_of latched_of
+  sample_accepted ts us j e f g k =
+      let a : 0 ≡ sample_answer rs x = rw c at e in
+      let q : ts ≡ stored_readings rs x = rw c at f ∙ sym (stored_in_law rs x h) in
+      let r : us ≡ status_registers ts l = k ∙ status_set ts l j g in (
+        simp (eq-eqb (length rs) cells h, ← a, ← q, ← g.latches, ← r),
+        simp (eq-eqb (length rs) cells h, ← a, ← q, ← g.latched),
+      )

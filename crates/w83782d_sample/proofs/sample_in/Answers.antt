@@ -1,21 +1,17 @@
-use borrow.Author.Rules.{rules}
-use Rattle.w83782d_sample.proofs.Rules.{sample_short, sample_refused, sample_accepted}
+use Rattle.std.proofs.Common.{rules}
+use Rattle.w83782d_sample.proofs.Rules.{sample_refused, sample_accepted}
 use Rattle.w83782d_sample.proofs.sample_in.Goals as goal
 
-pub returns-then-s-ne-CELLS : goal.returns-then-s-ne-CELLS
-returns-then-s-ne-CELLS c =
-    let r = sample_short _ _ _ _ c.refused.ensures (search rules) in
-    record { outcome = r.0; latched = r.1 }
-
-pub returns-then-answer-ne-ACCEPTED : goal.returns-then-answer-ne-ACCEPTED
-returns-then-answer-ne-ACCEPTED c =
+pub returns-in-Err : goal.returns-in-Err
+returns-in-Err c =
     let r =
-    sample_refused _ _ _ (search rules) _ (search rules) _ c.refused-then-answer-ne-ACCEPTED.ensures (search rules) in
+    sample_refused c.args.s.now c.in-Some.cells.now c.args.l c.args.x (search rules) (search rules) _ _ c.in-Err.ensures
+    c.refused-in-Err.ensures in
     record { outcome = r.0; latched = r.1 }
 
 pub returns : goal.returns
 returns c =
     let r =
-    sample_accepted _ _ _ (search rules) _ c.answer_to-answer.ensures _ _ _ (search rules) c.store.ensures
-    c.set_status-done.ensures in
+    sample_accepted c.args.s.now c.in-Some.cells.now c.args.l c.args.x (search rules) (search rules) _ _ _
+    c.in_default-answer_to.ensures c.store.ensures c.evaluate-after.ensures c.set_status.ensures in
     record { outcome = r.0; latched = r.1 }

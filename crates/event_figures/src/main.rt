@@ -2,10 +2,12 @@
 // printed, and what they decode to.
 #![tactic(auto)]
 
+use answers::answer_number;
 use fan::Undivided;
-use std::io;
+use parts::RECORD;
+use std::{fmt, io};
 use w83782d_layout::samples::Sample;
-use w83782d_record::{Decoded, Event, Kind};
+use w83782d_record::{Event, Kind};
 
 // A sample that no record can hold: it is kept beside a write and is not looked at.
 fn unwritable() -> Sample {
@@ -17,49 +19,47 @@ fn unwritable() -> Sample {
     }
 }
 
-fn print_byte(rt: &impl Print, byte: u8) -> io::Result<()> {
-    print!(rt; " {byte:02x}")
+// A kind of event in words, as "write 47 50".
+#[derive(Clone, Copy)]
+struct Words(Kind);
+
+impl fmt::Display for Words {
+    fn fmt<W: fmt::Write>(&self, f: &mut fmt::Formatter<W>) -> fmt::Result {
+        match self.0 {
+            Kind::Write { index, value } => write!(f, "write {index:02x} {value:02x}"),
+            Kind::Read { index } => write!(f, "read {index:02x}"),
+            Kind::Sample => write!(f, "sample"),
+            Kind::Chassis => write!(f, "chassis"),
+        }
+    }
 }
 
 fn print_bytes(rt: &impl Print, bytes: &[u8]) -> io::Result<()> {
     for byte in bytes {
-        print_byte(rt, *byte)?;
+        print!(rt; " {byte:02x}")?;
     }
     println!(rt)
 }
 
-fn print_kind(rt: &impl Print, kind: Kind) -> io::Result<()> {
-    match kind {
-        Kind::Write { index, value } => println!(rt; "write {index:02x} {value:02x}"),
-        Kind::Read { index } => println!(rt; "read {index:02x}"),
-        Kind::Sample => println!(rt; "sample"),
-        Kind::Chassis => println!(rt; "chassis"),
-    }
-}
-
 fn print_decoded(rt: &impl Print, bytes: &[u8]) -> io::Result<()> {
-    let record = w83782d_record::decode(bytes);
-    let decoded = record.decoded;
-    match decoded {
-        Decoded::Event(kind) => print_kind(rt, kind),
-        Decoded::Refused(answer) => println!(rt; "refused {answer:02x}"),
+    match w83782d_record::decode(bytes) {
+        Ok(event) => println!(rt; "decoded {}", Words(event.kind)),
+        Err(refusal) => println!(rt; "decoded refused {:02x}", refusal.number()),
     }
 }
 
 fn main(rt: HostRuntime) -> io::Result<()> {
-    let sample = unwritable();
     let event = Event {
         kind: Kind::Write {
             index: 0x47,
             value: 0x50,
         },
-        sample,
+        sample: unwritable(),
     };
-    let mut bytes = [0xFFu8; 32];
+    let mut bytes = [0xFFu8; RECORD];
     let answer = w83782d_record::write_record(event, &mut bytes);
-    println!(rt; "answer {answer:02x}")?;
+    println!(rt; "answer {:02x}", answer_number(answer))?;
     print!(rt; "record")?;
     print_bytes(&rt, &bytes)?;
-    print!(rt; "decoded ")?;
     print_decoded(&rt, &bytes)
 }

@@ -1,10 +1,12 @@
 // The flags of an image: the chassis latch, sensor 1's mark, then status mark, OVT mark and asserted of sensors 2 and
 // 3, and the eight spare bytes behind them. A slice that is not an image of 128 bytes stays, and holds the latches of
 // power-on. The eight flags go as one number: one by one they were 54 instructions of a call, taken out and put back.
-ghost use Rattle.std.specs.Prelude.{◌≡◌};
+ghost use Rattle.std.specs.Prelude.{◌≡◌, ◌*◌};
+ghost use Rattle.bits.specs.Bits.{number_of, is_on};
+ghost use Rattle.sensor.specs.Sensor.{remote, output, mark_if};
 ghost use Rattle.w83782d_image.specs.Image.{latches_in, held_latches, flag_bytes, spare_zeros, put_from};
 
-use bits::{Bit, cell, flag, put};
+use bits::{Bit, cell};
 use flags::{flags_at, is_flag, join, put_eight};
 use sensor::{Output, Remote, is_hot, mark_if};
 use w83782d_latches::Latches;
@@ -19,6 +21,21 @@ const SPARE: usize = 120;
 
 // ---- Latches: of their flags 0 is closed, armed or released, any other byte opened, hot or asserted
 
+// The marks and the output of a sensor, by the places of its three flags among eight.
+fn remote_at(flags: u64, status: Bit, mark: Bit, asserted: Bit) -> Remote
+    ensures { result
+        ≡ remote (mark_if (is_on flags (8 * number_of status)))
+        (output (mark_if (is_on flags (8 * number_of mark))) (is_on flags (8 * number_of asserted))) }
+{
+    Remote {
+        status: mark_if(is_flag(flags, status)),
+        output: Output {
+            mark: mark_if(is_flag(flags, mark)),
+            asserted: is_flag(flags, asserted),
+        },
+    }
+}
+
 // The latches that an image holds; of a slice of another length, those of power-on.
 pub fn latches_in(image: &[u8]) -> Latches
     ensures { result ≡ held_latches image.now }
@@ -27,24 +44,13 @@ pub fn latches_in(image: &[u8]) -> Latches
         return Latches::power_on();
     }
     let flags = flags_at(image, FLAGS);
-    let two = Remote {
-        status: mark_if(is_flag(flags, Bit::B2)),
-        output: Output {
-            mark: mark_if(is_flag(flags, Bit::B3)),
-            asserted: is_flag(flags, Bit::B4),
-        },
-    };
-    let three = Remote {
-        status: mark_if(is_flag(flags, Bit::B5)),
-        output: Output {
-            mark: mark_if(is_flag(flags, Bit::B6)),
-            asserted: is_flag(flags, Bit::B7),
-        },
-    };
     Latches {
         chassis: is_flag(flags, Bit::B0),
         sensor1: mark_if(is_flag(flags, Bit::B1)),
-        remote: [two, three],
+        remote: [
+            remote_at(flags, Bit::B2, Bit::B3, Bit::B4),
+            remote_at(flags, Bit::B5, Bit::B6, Bit::B7),
+        ],
     }
 }
 
@@ -55,24 +61,17 @@ pub fn put_latches(image: &mut [u8], latches: Latches)
     if image.len() != IMAGE {
         return;
     }
-    let sensor1 = latches.sensor1;
     let two = latches.remote[0];
     let three = latches.remote[1];
-    let status2 = two.status;
-    let output2 = two.output;
-    let ovt2 = output2.mark;
-    let status3 = three.status;
-    let output3 = three.output;
-    let ovt3 = output3.mark;
     let flags = join(
         latches.chassis,
-        is_hot(sensor1),
-        is_hot(status2),
-        is_hot(ovt2),
-        output2.asserted,
-        is_hot(status3),
-        is_hot(ovt3),
-        output3.asserted,
+        is_hot(latches.sensor1),
+        is_hot(two.status),
+        is_hot(two.output.mark),
+        two.output.asserted,
+        is_hot(three.status),
+        is_hot(three.output.mark),
+        three.output.asserted,
     );
     put_eight(image, FLAGS, flags);
 }
@@ -84,8 +83,7 @@ pub fn chassis_in(image: &[u8]) -> bool
     cell(image, FLAGS) != 0
 }
 
-// The flags written as 0 or 1: what a call leaves that changes no latch. The compiler makes one vector of the
-// loop. A slice of another length stays.
+// The flags written as 0 or 1: what a call leaves that changes no latch. A slice of another length stays.
 pub fn normalise_flags(image: &mut [u8])
     ensures { image.new
         ≡ put_from image.old 112 (flag_bytes (latches_in image.old)) }
@@ -93,12 +91,7 @@ pub fn normalise_flags(image: &mut [u8])
     if image.len() != IMAGE {
         return;
     }
-    let mut at = FLAGS;
-    while at < SPARE {
-        let byte = cell(image, at);
-        put(image, at, flag(byte != 0));
-        at += 1;
-    }
+    put_eight(image, FLAGS, flags_at(image, FLAGS));
 }
 
 // The spare bytes made 0. A slice of another length stays.
@@ -108,9 +101,5 @@ pub fn clear_spare(image: &mut [u8])
     if image.len() != IMAGE {
         return;
     }
-    let mut at = SPARE;
-    while at < IMAGE {
-        put(image, at, 0);
-        at += 1;
-    }
+    image[SPARE..].fill(0);
 }

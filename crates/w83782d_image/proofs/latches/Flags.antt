@@ -2,18 +2,19 @@
 -- the latches from it and back; and the spare bytes stored one after another. Assumes nothing.
 use mathlib.Core.Path.{◌≡◌, ap, sym, ◌∙◌}
 use mathlib.Core.Bool.{Bool, true, false, not}
-use mathlib.Core.List.{List, [], ◌∷◌}
-use Prim.Native.Nat.{ℕ, ◌+◌, ◌-◌, ◌*◌, ◌<◌, ◌≤◌}
+use mathlib.Core.List.{List, [], ◌∷◌, ◌++◌, append_assoc}
+use Prim.Native.Nat.{ℕ, ◌+◌, ◌-◌, ◌*◌, ◌<◌}
 use native.Mathlib.Omega.{arith}
 use borrow.Author.Tests.{eq-eqb, ne_eqb}
 use lib.Dec.{eqb, lit<}
-use lib.ListN.{length, get_or, set}
-use lib.Seq.{sets}
+use lib.ListN.{length, get_or, take, drop}
+use Rattle.std.specs.Prelude.{replicate}
+use borrow.Rule.Slice.PartMut.{put_mid, post_of}
+use Rattle.std.proofs.lemmas.List.{drop-drop}
+use lib.Seq.{sets, sets-eq}
 use Rattle.bits.specs.Bits.{is_on, flag_of}
 use Rattle.flags.specs.Bytes.{joined, bytes_of, AreBytes, is_set, each_byte, normal, eight_from, flags_at, put_eight}
-use Rattle.bits.specs.Map.{tabulate}
 use Rattle.flags.proofs.Joined.{bytes_joined, flag_back}
-use Rattle.flags.proofs.Slices.{next_byte, fills_next}
 use Rattle.image.specs.Image.{mark_from}
 use Rattle.image.proofs.Images.{mark_of, flag_mark}
 use Rattle.sensor.specs.Sensor.{remote, output, armed, is_hot, mark_if}
@@ -21,7 +22,7 @@ use Rattle.sensor.specs.declared.Mark.{Mark}
 use Rattle.sensor.specs.declared.Remote.{Remote}
 use Rattle.w83782d_latches.specs.Effects.{latches, power_on_latches}
 use Rattle.w83782d_latches.specs.declared.Latches.{Latches}
-use Rattle.w83782d_image.specs.Image.{image_length, flag_bytes, latches_in, held_latches, put_from}
+use Rattle.w83782d_image.specs.Image.{image_length, flag_bytes, latches_in, held_latches, spare_zeros, put_from}
 use Rattle.w83782d_image.proofs.Images.{put_whole, three_in, eight_in}
 
 -- ---- the latches
@@ -52,18 +53,10 @@ flag_small : (t : Bool) → flag_of t < 256
 flag_small true = lit< tt
 flag_small false = lit< tt
 
-pub latches_put : (im u : List ℕ) (l : Latches) (w : ℕ) (h1 h2 h3 h5 h6 : Bool) → h1 ≡ is_hot l.sensor1
-    → h2 ≡ is_hot (get_or l.remote 0 armed).status → h3 ≡ is_hot (get_or l.remote 0 armed).output.mark
-    → h5 ≡ is_hot (get_or l.remote 1 armed).status → h6 ≡ is_hot (get_or l.remote 1 armed).output.mark
-    → w ≡ joined (flag_of l.chassis ∷ flag_of h1 ∷ flag_of h2 ∷ flag_of h3
-    ∷ flag_of (get_or l.remote 0 armed).output.asserted
-    ∷ flag_of h5 ∷ flag_of h6 ∷ flag_of (get_or l.remote 1 armed).output.asserted ∷ [])
-    → length im ≡ image_length → u ≡ put_eight im 112 w → u ≡ put_from im 112 (flag_bytes l)
-unfolding put_eight
-latches_put im u l w h1 h2 h3 h5 h6 e1 e2 e3 e5 e6 ew h eu =
+pub flags_small : (l : Latches) → AreBytes (flag_bytes l)
+flags_small l =
     let two : Remote = get_or l.remote 0 armed in
-    let three : Remote = get_or l.remote 1 armed in
-    let small : AreBytes (flag_bytes l) = (
+    let three : Remote = get_or l.remote 1 armed in (
       flag_small l.chassis,
       (
         flag_small (is_hot l.sensor1),
@@ -84,10 +77,31 @@ latches_put im u l w h1 h2 h3 h5 h6 e1 e2 e3 e5 e6 ew h eu =
           ),
         ),
       ),
-    ) in
-    let whole : w ≡ joined (flag_bytes l) = ew ∙ rw (e1, e2, e3, e5, e6) in
-    eu ∙ simp h (ap (sets im 112) (ap (bytes_of 8) whole ∙ bytes_joined (flag_bytes l) small)
+    )
+
+-- flags as one number stored
+pub flags_put : (im u : List ℕ) (l : Latches) (w : ℕ) → length im ≡ image_length → w ≡ joined (flag_bytes l)
+    → u ≡ put_eight im 112 w → u ≡ put_from im 112 (flag_bytes l)
+unfolding put_eight
+flags_put im u l w h e eu =
+    eu ∙ simp h (ap (sets im 112) (ap (bytes_of 8) e ∙ bytes_joined (flag_bytes l) (flags_small l))
     ∙ sym (put_whole im 112 (flag_bytes l) h))
+
+pub latches_put : (im u : List ℕ) (l : Latches) (w : ℕ) (h1 h2 h3 h5 h6 : Bool) → h1 ≡ is_hot l.sensor1
+    → h2 ≡ is_hot (get_or l.remote 0 armed).status → h3 ≡ is_hot (get_or l.remote 0 armed).output.mark
+    → h5 ≡ is_hot (get_or l.remote 1 armed).status → h6 ≡ is_hot (get_or l.remote 1 armed).output.mark
+    → w ≡ joined (flag_of l.chassis ∷ flag_of h1 ∷ flag_of h2 ∷ flag_of h3
+    ∷ flag_of (get_or l.remote 0 armed).output.asserted
+    ∷ flag_of h5 ∷ flag_of h6 ∷ flag_of (get_or l.remote 1 armed).output.asserted ∷ [])
+    → length im ≡ image_length → u ≡ put_eight im 112 w → u ≡ put_from im 112 (flag_bytes l)
+latches_put im u l w h1 h2 h3 h5 h6 e1 e2 e3 e5 e6 ew h eu = flags_put im u l w h (ew ∙ rw (e1, e2, e3, e5, e6)) eu
+
+-- the flags as they are written
+pub normalised_put : (im u : List ℕ) (w : ℕ) → length im ≡ image_length → w ≡ flags_at im 112 → u ≡ put_eight im 112 w
+    → u ≡ put_from im 112 (flag_bytes (latches_in im))
+normalised_put im u w h e eu =
+    let normal_flags : each_byte normal (eight_from im 112) ≡ flag_bytes (latches_in im) = simp flag_mark in
+    flags_put im u (latches_in im) w h (joined_flags im w e h ∙ ap joined normal_flags) eu
 
 pub held : (im : List ℕ) (l : Latches) → length im ≡ image_length → l ≡ held_latches im → l ≡ latches_in im
 unfolding held_latches
@@ -100,32 +114,15 @@ held_not im l n e = e ∙ simp (ne_eqb (length im) image_length n)
 pub flag_in : (x : ℕ) (im : List ℕ) (at : ℕ) → x ≡ get_or im at 0 → not (eqb x 0) ≡ is_set (get_or im at 0)
 flag_in x im at e = ap is_set e
 
--- a spare byte as power-on leaves it
-abbrev pub cleared_byte : ℕ → ℕ
-cleared_byte i = 0
-
-pub clears_next : (im s t : List ℕ) (at : ℕ) → 120 ≤ at → s ≡ sets im 120 (tabulate (at - 120) 120 cleared_byte)
-    → t ≡ set s at 0
-    → t ≡ sets im 120 (tabulate (at + 1 - 120) 120 cleared_byte)
-clears_next im s t at h es et = fills_next cleared_byte im s 120 at h es t et
-
--- a flag as it is written
-abbrev pub normalised : List ℕ → ℕ → ℕ
-normalised im i = flag_of (is_set (get_or im i 0))
-
-pub normalises_next : (im s t : List ℕ) (at x b : ℕ) → 112 ≤ at
-    → s ≡ sets im 112 (tabulate (at - 112) 112 (normalised im)) → x ≡ get_or s at 0 → b ≡ flag_of (not (eqb x 0))
-    → t ≡ set s at b → t ≡ sets im 112 (tabulate (at + 1 - 112) 112 (normalised im))
-normalises_next im s t at x b h es ex eb et =
-    let e : b ≡ normalised im at = eb ∙ ap flag_of (ap is_set (ex ∙ next_byte (normalised im) im s 112 at h es)) in
-    fills_next (normalised im) im s 112 at h es t (et ∙ ap (set s at) e)
-
-normalised_flags : (im : List ℕ) → tabulate 8 112 (normalised im) ≡ flag_bytes (latches_in im)
-normalised_flags im = simp flag_mark
-
-pub normalised_all : (im s : List ℕ) (at : ℕ) → length im ≡ image_length → at ≤ 120 → 120 ≤ at
-    → s ≡ sets im 112 (tabulate (at - 112) 112 (normalised im)) → s ≡ put_from im 112 (flag_bytes (latches_in im))
-normalised_all im s at w h k es =
-    let e : at - 112 ≡ 8 = omega arith in
-    es ∙ ap (λ (n : ℕ). sets im 112 (tabulate n 112 (normalised im))) e ∙ ap (sets im 112) (normalised_flags im)
-    ∙ sym (put_whole im 112 (flag_bytes (latches_in im)) w)
+-- the spare bytes filled with 0
+pub spare_filled : (im zs : List ℕ) → length im ≡ image_length → zs ≡ replicate (length im - 120) 0
+    → put_mid 120 (length im - 120) im zs ≡ put_from im 120 spare_zeros
+spare_filled im zs h e =
+    let k : length im - 120 ≡ 8 = omega arith in
+    let m : 120 + (length im - 120) ≡ 128 = omega arith in
+    let z : zs ≡ spare_zeros = e ∙ ap (λ (n : ℕ). replicate n 0) k in
+    let rest : post_of 120 (length im - 120) im ≡ drop 128 im =
+    drop-drop (length im - 120) 120 im ∙ ap (λ (n : ℕ). drop n im) m in
+    let whole : put_from im 120 spare_zeros ≡ (take 120 im ++ spare_zeros) ++ drop 128 im =
+    put_whole im 120 spare_zeros h ∙ sets-eq spare_zeros im 120 (omega arith) in
+    rw (z, rest, whole, append_assoc)

@@ -1,19 +1,19 @@
--- The loop's invariant: the first i codes are put. The measure is what is left of them.
--- Assumes nothing.
-use native.Mathlib.Omega.{arith}
-use Rattle.text.proofs.Puts.{put_length}
-use Rattle.w83782d_sample_words.proofs.Joined.{put_no_number, put_one_more, put_every}
+use Prim.Native.Nat.{◌≤◌}
+use lib.ListN.{length}
+use lib.Seq.{take_all}
+use Rattle.text.proofs.Puts.{◌then◌}
+use Rattle.w83782d_sample_words.proofs.Joined.{put_nothing, no_number, put_one_more}
 use borrow.Author.Rules.{rules}
 use Rattle.w83782d_sample_words.proofs.put_codes.Goals as goal
 
-pub loop-i-init : goal.loop-i-init
-loop-i-init c = (omega arith, put_no_number _ _ (omega arith) (omega arith))
+pub loop-code-init : goal.loop-code-init
+loop-code-init c = rw no_number (put_nothing _ _ _ c.put_bytes.ensures)
 
-pub loop-i-preserved : goal.loop-i-preserved
-loop-i-preserved c = (search rules, search (rules, put_one_more))
-
-pub shape_of-out : goal.shape_of-out
-shape_of-out c = put_length _ _ _ _ _ c.loop-i.invariant.1
+pub loop-code-preserved : goal.loop-code-preserved
+loop-code-preserved c =
+    put_one_more _ _ _ _ _ (search rules) c.loop-code.invariant (rw c.from.ensures at c.put_spaced.ensures)
 
 pub returns : goal.returns
-returns c = search (rules, put_every)
+returns c =
+    let all : length c.args.codes.now ≤ c.loop-code.code-index = search rules in
+    c.put_bytes.ensures then (rw (take_all _ _ all) at c.loop-code.invariant)

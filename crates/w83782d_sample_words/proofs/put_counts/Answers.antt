@@ -1,19 +1,19 @@
--- The loop's invariant: the first i counts are put. The measure is what is left of them.
--- Assumes nothing.
-use native.Mathlib.Omega.{arith}
-use Rattle.text.proofs.Puts.{put_length}
-use Rattle.w83782d_sample_words.proofs.Joined.{put_no_number, put_count_more, put_every_count}
+use Prim.Native.Nat.{◌≤◌}
+use lib.ListN.{length, length-map}
+use lib.Seq.{take_all}
+use Rattle.text.proofs.Puts.{◌then◌}
+use Rattle.w83782d_sample_words.proofs.Joined.{counted, put_nothing, no_number, put_count_more}
 use borrow.Author.Rules.{rules}
 use Rattle.w83782d_sample_words.proofs.put_counts.Goals as goal
 
-pub loop-i-init : goal.loop-i-init
-loop-i-init c = (omega arith, put_no_number _ _ (omega arith) (omega arith))
+pub loop-count-init : goal.loop-count-init
+loop-count-init c = rw no_number (put_nothing _ _ _ c.put_bytes.ensures)
 
-pub loop-i-preserved : goal.loop-i-preserved
-loop-i-preserved c = (search rules, search (rules, put_count_more))
-
-pub shape_of-out : goal.shape_of-out
-shape_of-out c = put_length _ _ _ _ _ c.loop-i.invariant.1
+pub loop-count-preserved : goal.loop-count-preserved
+loop-count-preserved c =
+    put_count_more _ _ _ _ _ _ (search rules) c.loop-count.invariant (rw c.from.ensures at c.put_spaced.ensures)
 
 pub returns : goal.returns
-returns c = search (rules, put_every_count)
+returns c =
+    let all : length (counted c.args.counts.now) ≤ c.loop-count.count-index = rw length-map (search rules) in
+    c.put_bytes.ensures then (rw (take_all _ _ all) at c.loop-count.invariant)

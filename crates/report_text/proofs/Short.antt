@@ -12,8 +12,10 @@ use lib.ListN.{length, length-append}
 use mir.Syntax.{w64}
 use mir.Val.{Fits, SFits}
 use Rattle.bits.specs.Bits.{choose}
-use Rattle.figures.specs.Figure.{figure}
-use Rattle.text.specs.Text.{ascii, Put}
+use Rattle.figures.specs.declared.Figure.{Figure}
+use Rattle.text.specs.Text.{ascii}
+use Rattle.text.specs.Pages.{Puts}
+use Rattle.text.specs.declared.Page.{Page}
 use Rattle.text.specs.Numbers.{digit, decimal, spaced, signed}
 use Rattle.text.proofs.Decimal.{decimal_ind}
 use Rattle.report_text.specs.Lines.{spaced_signed, extreme, reading_line, count_line, end_line}
@@ -63,14 +65,19 @@ extreme_21 samples z f = by_samples (eqb samples 0)
 -- ---- lines
 
 -- four numbers, each behind a space, and the line's end
-pub reading_short : (name : List ℕ) (samples : ℕ) (l g s : ℤ)
-    → Fits w64 samples → SFits w64 l → SFits w64 g → SFits w64 s
-    → length (reading_line name samples (figure l g s)) ≤ length name + 85
+pub reading_short : (name : List ℕ) (samples : ℕ) (f : Figure)
+    → Fits w64 samples → SFits w64 f.least → SFits w64 f.greatest → SFits w64 f.sum
+    → length (reading_line name samples f) ≤ length name + 85
 unfolding reading_line
-reading_short name samples l g s fn fl fg fs =
+reading_short name samples f fn fl fg fs =
     simp length-append
-    (omega
-    (arith, spaced_21 samples fn, extreme_21 samples l fl, extreme_21 samples g fg, spaced_signed_21 s fs))
+    (omega (
+      arith,
+      spaced_21 samples fn,
+      extreme_21 samples f.least fl,
+      extreme_21 samples f.greatest fg,
+      spaced_signed_21 f.sum fs,
+    ))
 
 -- a point, two numbers, the second behind a space, and the line's end
 pub count_short : (register : List ℕ) (j n : ℕ) → Fits w64 j → Fits w64 n
@@ -84,8 +91,8 @@ unfolding end_line
 end_short answer accepted fa fn = simp length-append (omega (arith, spaced_21 answer fa, spaced_21 accepted fn))
 
 -- the place after a word is no farther than the word is long
-pub place_short : (o p w : List ℕ) (at n k : ℕ) → Put o at w p n → length w ≤ k → n ≤ at + k
-place_short o p w at n k f h = omega (arith, f.place)
+pub place_short : (o p : Page) (w : List ℕ) (k : ℕ) → Puts o w p → length w ≤ k → p.at ≤ o.at + k
+place_short o p w k f h = omega (arith, f.put.place)
 
 -- a line more, and all of them
 pub one_farther : (at i k next n : ℕ) → next ≤ at + i * k → n ≤ next + k → n ≤ at + (i + 1) * k

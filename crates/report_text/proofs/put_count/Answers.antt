@@ -6,6 +6,6 @@ use Rattle.report_text.proofs.put_count.Goals as goal
 pub returns : goal.returns
 returns c =
     let line =
-    put_count_line _ _ _ c.put_bytes-a.ensures c.put_byte-b.ensures c.put_decimal-c.ensures
-    c.put_spaced-d.ensures c.put_byte.ensures in
-    record { line = line; short = omega (arith, place_short _ _ _ _ _ _ line (count_short _ _ _ c.ranges.bit c.ranges.n)) }
+    put_count_line _ _ _ c.put_bytes.ensures c.put_byte.ensures c.put_decimal.ensures c.put_spaced.ensures
+    c.put_byte-2.ensures in
+    record { line = line; short = omega (arith, place_short _ _ _ _ line (count_short _ _ _ c.ranges.bit c.ranges.n)) }

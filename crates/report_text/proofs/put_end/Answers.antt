@@ -9,7 +9,7 @@ use Rattle.report_text.proofs.put_end.Goals as goal
 pub returns : goal.returns
 returns c =
     let line =
-    put_end_line _ _ c.put_bytes-a.ensures c.put_spaced-b.ensures c.put_spaced-c.ensures
+    put_end_line _ _ c.put_bytes.ensures (rw c.from.ensures at c.put_spaced.ensures) c.put_spaced-2.ensures
     c.put_byte.ensures in
     let wide : Fits w64 c.args.answer = search rules in
-    record { line = line; short = omega (arith, place_short _ _ _ _ _ _ line (end_short _ _ wide c.ranges.accepted)) }
+    record { line = line; short = omega (arith, place_short _ _ _ _ line (end_short _ _ wide c.ranges.accepted)) }

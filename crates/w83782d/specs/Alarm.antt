@@ -9,16 +9,14 @@ use Rattle.w83782d_bus.specs.Bus.{State, written}
 use Rattle.w83782d_claims.specs.Alarm.{Call, write, read, look, sample, chassis, set_plan, answer_to, monitor}
 use Rattle.w83782d_events.specs.Events.{call_for}
 use Rattle.w83782d.specs.declared.Monitor.{Monitor}
-use Rattle.w83782d.specs.declared.Answered.{Answered}
-use Rattle.w83782d.specs.declared.Shown.{Shown}
-use Rattle.w83782d.specs.Monitor.{state_of, write_of, look_of, read_of, sample_of, opened_of, set_plan_of, apply_of}
+use Rattle.w83782d.specs.Monitor.{Answer, Shown, state_of, write_of, look_of, read_of, sample_of, opened_of, set_plan_of, apply_of}
 
 -- what a read, a look or an event answers beside its byte
-abbrev pub without_byte : Shown → Answered
+abbrev pub without_byte : Shown → Answer
 without_byte r = record { monitor = r.monitor; answer = r.answer }
 
 -- each call is answered by the definition that its method's contract cites
-abbrev pub answer_of : Monitor → Call → Answered
+abbrev pub answer_of : Monitor → Call → Answer
 answer_of m (write i v) = write_of m i v
 answer_of m (read i) = without_byte (read_of m i)
 answer_of m (look i) = without_byte (look_of m i)

@@ -6,4 +6,4 @@ use Rattle.w83782d.proofs.Monitor.chassis_opened.Goals as goal
 pub returns : goal.returns
 returns c =
     let m = c.args.self in
-    rw (c.of.ensures, c.opened-after.ensures) record { equation = refl; claims = opened (state_of m) }
+    rw (c.of.ensures, c.opened.ensures) record { equation = refl; claims = opened (state_of m) }

@@ -6,7 +6,7 @@ use lib.ListN.{get_or}
 use Rattle.w83782d.specs.Monitor.{state_of}
 use Rattle.w83782d_claims.proofs.sample.Proved.{sample_claims}
 use Rattle.w83782d_claims.proofs.alarm.Alarm.{sample_rings}
-use Rattle.w83782d.proofs.Wrappers.{answered_as}
+use Rattle.w83782d.proofs.Wrappers.{wrote_only}
 use Rattle.w83782d.proofs.Monitor.sample.Goals as goal
 
 pub returns : goal.returns
@@ -17,5 +17,5 @@ returns c =
     let byte : SFits w8 x.sensor1 = search rules in
     let done = c.sample_in-done.ensures.outcome in
     let claims = sample_claims (state_of m) x (record { count = search rules; bytes = λ k. (fits k).fits }) byte in
-    let equation = answered_as m.registers m.latches (search rules) _ _ _ _ done c.of.ensures in
+    let equation = wrote_only m.registers m.latches (search rules) _ _ _ _ _ c.and.ensures done c.of.ensures in
     record { equation = equation; claims = claims; rings = sample_rings (state_of m) x }

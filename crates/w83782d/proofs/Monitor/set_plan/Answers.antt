@@ -3,7 +3,7 @@ use Rattle.w83782d.specs.Monitor.{state_of}
 use Rattle.w83782d_plan.proofs.settings.Proved.{plan_claims}
 use Rattle.w83782d_claims.proofs.alarm.Alarm.{alarm_rings, sets_alarm}
 use Rattle.w83782d.proofs.Calls.{monitor_calls}
-use Rattle.w83782d.proofs.Wrappers.{answered_as}
+use Rattle.w83782d.proofs.Wrappers.{wrote}
 use Rattle.w83782d.proofs.Monitor.set_plan.Goals as goal
 
 pub returns : goal.returns
@@ -13,7 +13,7 @@ returns c =
     let claims = plan_claims (state_of m) a.fan a.rpm (search rules) in
     let own = sets_alarm (state_of m) a.fan a.rpm (search rules) in
     record {
-      equation = search (rules, answered_as);
+      equation = search (rules, wrote);
       claims = claims;
       own = own;
       alarm = alarm_rings;

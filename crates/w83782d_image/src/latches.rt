@@ -6,7 +6,7 @@ ghost use Rattle.bits.specs.Bits.{number_of, is_on};
 ghost use Rattle.sensor.specs.Sensor.{remote, output, mark_if};
 ghost use Rattle.w83782d_image.specs.Image.{latches_in, held_latches, flag_bytes, spare_zeros, put_from};
 
-use bits::{Bit, cell};
+use bits::{Bit, cell, flag, put};
 use flags::{flags_at, is_flag, join, put_eight};
 use sensor::{Output, Remote, is_hot, mark_if};
 use w83782d_latches::Latches;
@@ -83,7 +83,8 @@ pub fn chassis_in(image: &[u8]) -> bool
     cell(image, FLAGS) != 0
 }
 
-// The flags written as 0 or 1: what a call leaves that changes no latch. A slice of another length stays.
+// The flags written as 0 or 1: what a call leaves that changes no latch. The compiler makes one vector of the
+// loop; by flags_at and put_eight it is a dozen instructions more. A slice of another length stays.
 pub fn normalise_flags(image: &mut [u8])
     ensures { image.new
         ≡ put_from image.old 112 (flag_bytes (latches_in image.old)) }
@@ -91,7 +92,10 @@ pub fn normalise_flags(image: &mut [u8])
     if image.len() != IMAGE {
         return;
     }
-    put_eight(image, FLAGS, flags_at(image, FLAGS));
+    for at in FLAGS..SPARE {
+        let byte = cell(image, at);
+        put(image, at, flag(byte != 0));
+    }
 }
 
 // The spare bytes made 0. A slice of another length stays.

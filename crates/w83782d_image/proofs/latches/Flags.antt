@@ -3,11 +3,11 @@
 use mathlib.Core.Path.{◌≡◌, ap, sym, ◌∙◌}
 use mathlib.Core.Bool.{Bool, true, false, not}
 use mathlib.Core.List.{List, [], ◌∷◌, ◌++◌, append_assoc}
-use Prim.Native.Nat.{ℕ, ◌+◌, ◌-◌, ◌*◌, ◌<◌}
+use Prim.Native.Nat.{ℕ, ◌+◌, ◌-◌, ◌*◌, ◌<◌, ◌≤◌}
 use native.Mathlib.Omega.{arith}
 use borrow.Author.Tests.{eq-eqb, ne_eqb}
 use lib.Dec.{eqb, lit<}
-use lib.ListN.{length, get_or, take, drop}
+use lib.ListN.{length, get_or, set, take, drop}
 use Rattle.std.specs.Prelude.{replicate}
 use borrow.Rule.Slice.PartMut.{put_mid, post_of}
 use Rattle.std.proofs.lemmas.List.{drop-drop}
@@ -15,6 +15,8 @@ use lib.Seq.{sets, sets-eq}
 use Rattle.bits.specs.Bits.{is_on, flag_of}
 use Rattle.flags.specs.Bytes.{joined, bytes_of, AreBytes, is_set, each_byte, normal, eight_from, flags_at, put_eight}
 use Rattle.flags.proofs.Joined.{bytes_joined, flag_back}
+use Rattle.flags.proofs.Slices.{next_byte, fills_next}
+use Rattle.bits.specs.Map.{tabulate}
 use Rattle.image.specs.Image.{mark_from}
 use Rattle.image.proofs.Images.{mark_of, flag_mark}
 use Rattle.sensor.specs.Sensor.{remote, output, armed, is_hot, mark_if}
@@ -96,13 +98,6 @@ pub latches_put : (im u : List ℕ) (l : Latches) (w : ℕ) (h1 h2 h3 h5 h6 : Bo
     → length im ≡ image_length → u ≡ put_eight im 112 w → u ≡ put_from im 112 (flag_bytes l)
 latches_put im u l w h1 h2 h3 h5 h6 e1 e2 e3 e5 e6 ew h eu = flags_put im u l w h (ew ∙ rw (e1, e2, e3, e5, e6)) eu
 
--- the flags as they are written
-pub normalised_put : (im u : List ℕ) (w : ℕ) → length im ≡ image_length → w ≡ flags_at im 112 → u ≡ put_eight im 112 w
-    → u ≡ put_from im 112 (flag_bytes (latches_in im))
-normalised_put im u w h e eu =
-    let normal_flags : each_byte normal (eight_from im 112) ≡ flag_bytes (latches_in im) = simp flag_mark in
-    flags_put im u (latches_in im) w h (joined_flags im w e h ∙ ap joined normal_flags) eu
-
 pub held : (im : List ℕ) (l : Latches) → length im ≡ image_length → l ≡ held_latches im → l ≡ latches_in im
 unfolding held_latches
 held im l h e = e ∙ simp (eq-eqb (length im) image_length h)
@@ -126,3 +121,24 @@ spare_filled im zs h e =
     let whole : put_from im 120 spare_zeros ≡ (take 120 im ++ spare_zeros) ++ drop 128 im =
     put_whole im 120 spare_zeros h ∙ sets-eq spare_zeros im 120 (omega arith) in
     rw (z, rest, whole, append_assoc)
+
+-- a flag as it is written
+abbrev pub normalised : List ℕ → ℕ → ℕ
+normalised im i = flag_of (is_set (get_or im i 0))
+
+pub normalises_next : (im s t : List ℕ) (at x b : ℕ) → 112 ≤ at
+    → s ≡ sets im 112 (tabulate (at - 112) 112 (normalised im)) → x ≡ get_or s at 0 → b ≡ flag_of (not (eqb x 0))
+    → t ≡ set s at b → t ≡ sets im 112 (tabulate (at + 1 - 112) 112 (normalised im))
+normalises_next im s t at x b h es ex eb et =
+    let e : b ≡ normalised im at = eb ∙ ap flag_of (ap is_set (ex ∙ next_byte (normalised im) im s 112 at h es)) in
+    fills_next (normalised im) im s 112 at h es t (et ∙ ap (set s at) e)
+
+normalised_flags : (im : List ℕ) → tabulate 8 112 (normalised im) ≡ flag_bytes (latches_in im)
+normalised_flags im = simp flag_mark
+
+pub normalised_all : (im s : List ℕ) (at : ℕ) → length im ≡ image_length → at ≤ 120 → 120 ≤ at
+    → s ≡ sets im 112 (tabulate (at - 112) 112 (normalised im)) → s ≡ put_from im 112 (flag_bytes (latches_in im))
+normalised_all im s at w h k es =
+    let e : at - 112 ≡ 8 = omega arith in
+    es ∙ ap (λ (n : ℕ). sets im 112 (tabulate n 112 (normalised im))) e ∙ ap (sets im 112) (normalised_flags im)
+    ∙ sym (put_whole im 112 (flag_bytes (latches_in im)) w)

@@ -1,12 +1,17 @@
 -- A number's digits: the definition by its two cases, and what the digits mean.
 -- Assumes nothing.
-use Prim.Native.Nat.{ℕ, zero, suc, ◌+◌, ◌-◌, ◌*◌, ◌/◌, ◌≤◌, ◌<◌}
+use Prim.Native.Nat.{ℕ, zero, suc, ◌+◌, ◌-◌, ◌*◌, ◌/◌, ◌^◌, ◌≤◌, ◌<◌}
+use native.Mathlib.Nat.{pow-succ'}
+use native.Mathlib.Numerals.{add-one}
 use native.Mathlib.Omega.{arith}
 use mathlib.Core.Path.{◌≡◌, refl, sym, ap, ◌∙◌}
 use mathlib.Core.Bool.{Bool, true, false}
 use mathlib.Core.List.{List, [], ◌∷◌, ◌++◌, append_assoc, append-nil}
 use borrow.Author.Tests.{lt-ltb, le-ltb, ltb-true, ltb-false}
 use lib.Dec.{ltb}
+use lib.ListN.{length, length-drop, length-set, set, take, drop}
+use lib.Seq.{take_all}
+use Rattle.std.proofs.lemmas.List.{drop_all, drop-set}
 use Rattle.bits.specs.Bits.{choose}
 use Rattle.text.specs.Pages.{Puts}
 use Rattle.text.specs.declared.Page.{Page}
@@ -127,13 +132,52 @@ decimals =
       only = only_digits;
     }
 
--- ---- as it is put
-pub put_one : (o p : Page) (n : ℕ) → n < 10 → Puts o (digit n ∷ []) p → Puts o (decimal n) p
-put_one o p n h f = rw (decimal_one n h) f
+-- ---- as it is put: its last digits are in a buffer from the place first + 1 on, and rest is what they leave
+pub record SoFar (n rest first : ℕ) (ds : List ℕ) : Type 0 where
+  pub low : first < 20
+  pub size : length ds ≡ 20
+  pub room : rest < 10 ^ (first + 1)
+  pub digits : decimal rest ++ drop (first + 1) ds ≡ decimal n
 
-pub put_ten : (o p q : Page) (n : ℕ) → 10 ≤ n → Puts o (decimal (n / 10)) p → Puts p (digit n ∷ []) q
-    → Puts o (decimal n) q
-put_ten o p q n h f g = rw (decimal_more n h) (f then g)
+pub no_digit : (n : ℕ) (ds : List ℕ) → length ds ≡ 20 → n < 2 ^ 64 → SoFar n n 19 ds
+no_digit n ds h k =
+    record {
+      low = omega arith;
+      size = h;
+      room = omega arith;
+      digits = rw (drop_all 20 ds (omega arith)) (append-nil (decimal n));
+    }
+
+module _ (n rest first : ℕ) (ds : List ℕ) (s : SoFar n rest first ds) where
+  pub is_behind : drop first (set ds first (digit rest)) ≡ digit rest ∷ drop (first + 1) ds
+  is_behind = drop-set ds first (digit rest) (omega (arith, s.low, s.size))
+
+  pub room_before : 10 ≤ rest → 1 ≤ first
+  room_before h = by_first first s.room
+    where
+      by_first : (k : ℕ) → rest < 10 ^ (k + 1) → 1 ≤ k
+      by_first zero f = absurd (omega arith)
+      by_first (suc k) f = omega arith
+
+  pub digit_more : 10 ≤ rest → SoFar n (rest / 10) (first - 1) (set ds first (digit rest))
+  digit_more h =
+      let e : first - 1 + 1 ≡ first = omega (arith, room_before h) in
+      let more = append_assoc (decimal (rest / 10)) (digit rest ∷ []) (drop (first + 1) ds) in
+      record {
+        low = omega (arith, s.low);
+        size = simp length-set s.size;
+        room = rw e (room_less first h s.room);
+        digits = rw (e, is_behind) (sym more ∙ rw (decimal_more rest h) at s.digits);
+      }
+    where
+      room_less : (k : ℕ) → 10 ≤ rest → rest < 10 ^ (k + 1) → rest / 10 < 10 ^ k
+      room_less k h f = let p : 10 ^ (k + 1) ≡ 10 * 10 ^ k = rw add-one (pow-succ' 10 k) in omega (arith, p)
+
+  pub all_digits : rest < 10 → take (20 - first) (drop first (set ds first (digit rest))) ≡ decimal n
+  all_digits h =
+      let all : length (drop first (set ds first (digit rest))) ≤ 20 - first =
+      simp (length-drop, length-set) (omega (arith, s.size)) in
+      take_all (20 - first) _ all ∙ rw is_behind (rw (decimal_one rest h) at s.digits)
 
 -- a number behind a space
 pub put_behind_space : (o p q : Page) (n : ℕ) → Puts o (32 ∷ []) p → Puts p (decimal n) q → Puts o (spaced n) q

@@ -4,9 +4,19 @@
 // `text_push` has pushes, which write all of their characters or none.
 #![tactic(auto)]
 
-ghost use Rattle.std.specs.Prelude.{[], ◌∷◌};
+ghost use Rattle.std.specs.Prelude.{◌≡◌, [], ◌∷◌};
 ghost use Rattle.text.specs.Pages.{Puts};
 ghost use Rattle.text.specs.Numbers.{digit, decimal, spaced, places, pointed, signed, signed_places};
+
+// A number of 64 bits has no more digits.
+const DIGITS: usize = 20;
+
+// The last digit of a number.
+fn last_digit(n: u64) -> u8
+    ensures { result ≡ digit n }
+{
+    b'0' + (n % 10) as u8
+}
 
 #[derive(Drop)]
 pub struct Page<'a> {
@@ -36,21 +46,20 @@ impl<'a> Page<'a> {
         self.at = self.at.saturating_add(word.len());
     }
 
-    // The last digit of a number.
-    fn put_digit(&mut self, n: u64)
-        ensures { Puts self.old (digit n ∷ []) self.new }
-    {
-        self.put_byte(b'0' + (n % 10) as u8);
-    }
-
-    // A number, without leading zeros. It has at most 20 digits, so the calls are at most 20 deep.
+    // A number, without leading zeros.
     pub fn put_decimal(&mut self, n: u64)
         ensures { Puts self.old (decimal n) self.new }
     {
-        if n >= 10 {
-            self.put_decimal(n / 10);
+        let mut digits = [0; DIGITS];
+        let mut first = DIGITS - 1;
+        let mut rest = n;
+        while rest >= 10 {
+            digits[first] = last_digit(rest);
+            first -= 1;
+            rest /= 10;
         }
-        self.put_digit(n);
+        digits[first] = last_digit(rest);
+        self.put_bytes(&digits[first..]);
     }
 
     // The same behind a space.
@@ -71,7 +80,7 @@ impl<'a> Page<'a> {
             return;
         }
         self.put_pointed(n / 10, digits - 1);
-        self.put_digit(n);
+        self.put_byte(last_digit(n));
     }
 
     // A number with so many of its digits after a point: 44118 with 1 is "4411.8". No point where they are none.

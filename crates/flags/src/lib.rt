@@ -68,5 +68,6 @@ pub fn put_eight(s: &mut [u8], at: usize, bytes: u64)
     if s.len() < 8 || s.len() - 8 < at {
         return;
     }
-    s[at..at + 8].copy_from_slice(&bytes.to_le_bytes());
+    let eight = bytes.to_le_bytes();
+    s[at..at + 8].copy_from_slice(&eight);
 }

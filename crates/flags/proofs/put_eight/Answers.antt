@@ -12,4 +12,4 @@ returns-then-s-lt8 c =
     ]
 
 pub returns : goal.returns
-returns c = put_eight_all _ _ _ _ (omega arith) (c.copy_from_slice.ensures.after ∙ c.to_le_bytes.ensures)
+returns c = put_eight_all _ _ _ _ (omega arith) (c.copy_from_slice.ensures.after ∙ c.to_le_bytes-eight.ensures)

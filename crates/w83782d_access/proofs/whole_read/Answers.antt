@@ -1,20 +1,19 @@
 use borrow.Author.Rules.{rules}
-use Rattle.w83782d_image.proofs.latches.Flags.{held}
-use Rattle.w83782d_access.proofs.Accesses.{read_short, read_refused, read_accepted}
 use native.Mathlib.Omega.{arith}
 use lib.ListN.{length-take}
+use Rattle.w83782d_image.proofs.latches.Flags.{held}
+use Rattle.w83782d_access.proofs.Accesses.{read_refused, read_accepted}
 use Rattle.w83782d_access.proofs.whole_read.Goals as goal
-
-pub returns-then-image-ne-IMAGE : goal.returns-then-image-ne-IMAGE
-returns-then-image-ne-IMAGE c = search (rules, read_short)
 
 pub slice_bounds-read_in-end-2 : goal.slice_bounds-read_in-end-2
 slice_bounds-read_in-end-2 c = simp length-take (omega arith)
 
-pub returns-then-done-ne-ACCEPTED : goal.returns-then-done-ne-ACCEPTED
-returns-then-done-ne-ACCEPTED c = search (rules, read_refused, held)
+pub returns-in-Ok : goal.returns-in-Ok
+returns-in-Ok c =
+    read_accepted _ _ _ (search rules) (held _ _ (search rules) c.latches_in-l.ensures) _ _ c.read_in-done.ensures _ _
+    c.in-Ok.is (search rules) c.put_latches.ensures
 
-pub returns : goal.returns
-returns c =
-    read_accepted _ _ _ (search rules) (held _ _ (search rules) c.latches_in-l.ensures) _ _
-    c.read_in-done.ensures _ _ c.if-done-ne-ACCEPTED.false (search rules) c.put_latches.ensures c.word-2.ensures
+pub returns-in-Err : goal.returns-in-Err
+returns-in-Err c =
+    read_refused _ _ _ (search rules) (held _ _ (search rules) c.latches_in-l.ensures) _ _ c.read_in-done.ensures _
+    c.in-Err.is

@@ -1,8 +1,7 @@
 use borrow.Author.Rules.{rules}
-use Rattle.w83782d_image.proofs.latches.Flags.{held}
 use native.Mathlib.Omega.{arith}
 use lib.ListN.{length-take}
-use mathlib.Core.Path.{refl}
+use Rattle.w83782d_image.proofs.latches.Flags.{held}
 use Rattle.w83782d_access.proofs.Plain.{whole_written_law}
 use Rattle.w83782d_access.proofs.whole_write.Goals as goal
 
@@ -10,8 +9,6 @@ pub slice_bounds-write_registers-end-2 : goal.slice_bounds-write_registers-end-2
 slice_bounds-write_registers-end-2 c = simp length-take (omega arith)
 
 pub returns : goal.returns
-returns c = (
-  refl,
-  whole_written_law _ _ _ _ _ _ _ (search rules) c.write_registers.ensures (search rules)
-      (held _ _ (search rules) c.latches_in-l.ensures) c.write_latches.ensures c.put_latches.ensures,
-)
+returns c =
+    whole_written_law _ _ _ _ _ _ _ (search rules) c.write_registers.ensures (search rules)
+    (held _ _ (search rules) c.latches_in-l.ensures) c.write_latches.ensures c.put_latches.ensures

@@ -68,6 +68,7 @@ impl Divisor {
     pub fn from_bits(bits: u8) -> Self
         ensures { (result ≡ from_bits bits) × (exponent_of result ≡ bits % 8) }
     {
+        // No array of the eight: the compiler would build it on the stack, and of this it makes one instruction.
         match bits % 8 {
             0 => Divisor::By1,
             1 => Divisor::By2,
@@ -117,10 +118,7 @@ impl Undivided {
         ensures { result.0 ≡ stored_of self.0 (value_of divisor) }
     {
         let quotient = self.0 / (divisor.value() as u32);
-        if quotient < FULL as u32 {
-            return Divided(quotient as u8);
-        }
-        Divided(FULL)
+        Divided(quotient.min(FULL as u32) as u8)
     }
 }
 
@@ -137,13 +135,10 @@ impl Divided {
         ensures equation { result ≡ count_speed self.0 (value_of divisor) }
         ensures claims { SpeedClaims }
     {
-        let count = self.0;
-        if count == 0 {
-            return Speed::TooFast;
+        match self.0 {
+            0 => Speed::TooFast,
+            FULL => Speed::TooSlow,
+            count => Speed::Tenths(rounded(PER_TENTH, (count as u32) * (divisor.value() as u32))),
         }
-        if count == FULL {
-            return Speed::TooSlow;
-        }
-        Speed::Tenths(rounded(PER_TENTH, (count as u32) * (divisor.value() as u32)))
     }
 }

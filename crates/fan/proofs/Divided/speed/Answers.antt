@@ -5,14 +5,14 @@ use Rattle.fan.specs.Speed.{count_speed}
 use Rattle.fan.proofs.Speeds.{speed_claims}
 use Rattle.fan.proofs.Divided.speed.Goals as goal
 
-pub returns-then-count-eq0 : goal.returns-then-count-eq0
+pub returns-in-0 : goal.returns-in-0
 unfolding count_speed
-returns-then-count-eq0 c = record { equation = search (rules, tests); claims = speed_claims }
+returns-in-0 c = record { equation = search (rules, tests); claims = speed_claims }
 
-pub returns-then-count : goal.returns-then-count
+pub returns-in-255 : goal.returns-in-255
 unfolding count_speed
-returns-then-count c = record { equation = search (rules, tests); claims = speed_claims }
+returns-in-255 c = record { equation = search (rules, tests); claims = speed_claims }
 
-pub returns : goal.returns
+pub returns-in_default : goal.returns-in_default
 unfolding count_speed
-returns c = record { equation = search (rules, tests); claims = speed_claims }
+returns-in_default c = record { equation = search (rules, tests); claims = speed_claims }

@@ -21,11 +21,13 @@ is_outside rs i = outside_at rs (voltage i) (high_limit i) (low_limit i)
 -- S-6: above its over limit; sensors 2 and 3 by the first cell of their bank
 unfoldable pub is_above : List ℕ → ℕ → Bool
 is_above rs n =
-    choose (eqb n 1) (ltb (whole_level_at rs sensor1_over) (whole_level_at rs sensor1_value)) (above_at rs (bank_cell n))
+    choose (eqb n 1) (ltb (whole_level_at rs sensor1_over) (whole_level_at rs sensor1_value))
+    (above_at rs (bank_cell n))
 
 unfoldable pub is_below : List ℕ → ℕ → Bool
 is_below rs n =
-    choose (eqb n 1) (ltb (whole_level_at rs sensor1_value) (whole_level_at rs sensor1_hysteresis)) (below_at rs (bank_cell n))
+    choose (eqb n 1) (ltb (whole_level_at rs sensor1_value) (whole_level_at rs sensor1_hysteresis))
+    (below_at rs (bank_cell n))
 
 -- S-7
 unfoldable pub is_slow : List ℕ → ℕ → Bool
@@ -63,7 +65,8 @@ compared_of rs =
           word (is_outside rs 0 ∷ is_outside rs 1 ∷ is_outside rs 2 ∷ is_outside rs 3 ∷ false ∷ false ∷ is_slow rs 1
           ∷ is_slow rs 2 ∷ []);
       second =
-          word (is_outside rs 4 ∷ is_outside rs 5 ∷ is_outside rs 6 ∷ is_slow rs 3 ∷ false ∷ false ∷ false ∷ false ∷ []);
+          word (is_outside rs 4 ∷ is_outside rs 5 ∷ is_outside rs 6 ∷ is_slow rs 3 ∷ false ∷ false ∷ false ∷ false
+          ∷ []);
       sensor1 = comparison_of rs 1;
       remote = remote_comparison_of rs 2 ∷ remote_comparison_of rs 3 ∷ [];
     }

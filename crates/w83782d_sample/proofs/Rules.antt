@@ -177,7 +177,8 @@ evaluation_of : (rs : List ℕ) (l : Latches) (one : Status) (two three : Step) 
     → three ≡ remote_step (remote_comparison_of rs 3) (get_or l.remote 1 armed)
     → w1 ≡ word (is_outside rs 0 ∷ is_outside rs 1 ∷ is_outside rs 2 ∷ is_outside rs 3 ∷ false ∷ false ∷ is_slow rs 1
     ∷ is_slow rs 2 ∷ [])
-    → w2 ≡ word (is_outside rs 4 ∷ is_outside rs 5 ∷ is_outside rs 6 ∷ is_slow rs 3 ∷ false ∷ false ∷ false ∷ false ∷ [])
+    → w2 ≡ word (is_outside rs 4 ∷ is_outside rs 5 ∷ is_outside rs 6 ∷ is_slow rs 3 ∷ false ∷ false ∷ false ∷ false
+    ∷ [])
     → r1 ≡ word (false ∷ false ∷ false ∷ false ∷ is_above rs 1 ∷ is_above rs 2 ∷ false ∷ false ∷ [])
     → r2 ≡ word (false ∷ false ∷ false ∷ false ∷ false ∷ is_above rs 3 ∷ false ∷ false ∷ [])
     → x1 ≡ crossed_of (get_or rs real_time_status1 0) 0b1100_0000 w1
@@ -213,7 +214,8 @@ pub evaluation : (rs : List ℕ) (l : Latches) (c : Compared) (d : RemoteCompari
     → one ≡ status_of c.sensor1.mode l.sensor1 c.sensor1.above c.sensor1.below
     → two ≡ remote_step (get_or c.remote 0 d) (get_or l.remote 0 armed)
     → three ≡ remote_step (get_or c.remote 1 d) (get_or l.remote 1 armed)
-    → r1 ≡ word (false ∷ false ∷ false ∷ false ∷ c.sensor1.above ∷ (get_or c.remote 0 d).status.above ∷ false ∷ false ∷ [])
+    → r1 ≡ word (false ∷ false ∷ false ∷ false ∷ c.sensor1.above ∷ (get_or c.remote 0 d).status.above ∷ false ∷ false
+    ∷ [])
     → r2 ≡ word (false ∷ false ∷ false ∷ false ∷ false ∷ (get_or c.remote 1 d).status.above ∷ false ∷ false ∷ [])
     → x1 ≡ crossed_of (get_or rs real_time_status1 0) 0b1100_0000 c.first
     → x2 ≡ crossed_of (get_or rs real_time_status2 0) 0b0000_1000 c.second

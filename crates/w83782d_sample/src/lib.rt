@@ -6,7 +6,8 @@ ghost use Rattle.std.specs.Prelude.{◌≡◌, false, [], ◌∷◌};
 ghost use Rattle.bits.specs.Bits.{word};
 ghost use Rattle.w83782d_bus.specs.Bus.{state, sized, outcome_in};
 ghost use Rattle.w83782d_sample.specs.Sample.{sample_of};
-ghost use Rattle.w83782d_sample.specs.SampleParts.{remote_step, Evaluates, with_status, refused_of, bits_of, latched_in};
+ghost use Rattle.w83782d_sample.specs.SampleParts.{remote_step, Evaluates, with_status};
+ghost use Rattle.w83782d_sample.specs.SampleParts.{refused_of, bits_of, latched_in};
 
 use answers::Refusal;
 use bits::pack;

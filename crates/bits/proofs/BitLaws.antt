@@ -31,9 +31,6 @@ number_lt B5 = lit< tt
 number_lt B6 = lit< tt
 number_lt B7 = lit< tt
 
-pub number_small : (n : ℕ) (b : Bit) → n ≡ number_of b → n < 8
-number_small n b e = rw e (number_lt b)
-
 pub bit_lt : (n j : ℕ) → bit n j < 2
 unfolding bit
 bit_lt n j = mod-lt (n / 2 ^ j) (lit< tt)
@@ -50,10 +47,6 @@ bit_placed = same_below2 2 8 (λ d j. bit (d * 2 ^ j) j) (λ d j. d) tt
 -- the lowest digit by a mask
 pub low_digit : (x : ℕ) → bit_and x 1 ≡ x % 2
 low_digit x = and_mask x 1
-
--- one bit shifted up stays within the byte
-pub shifted : (d j : ℕ) → d < 2 → j < 8 → d * 2 ^ j % 256 ≡ d * 2 ^ j
-shifted = same_below2 2 8 (λ d j. d * 2 ^ j % 256) (λ d j. d * 2 ^ j) tt
 
 -- ---- masks, bit by bit
 -- an operation f that keeps bits apart does to each bit what it does to one

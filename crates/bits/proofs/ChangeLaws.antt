@@ -1,16 +1,16 @@
 -- Changes of cells, by induction over the list of changes.
 -- Assumes nothing.
-use mathlib.Core.Path.{◌≡◌, ◌∙◌, ap, sym, refl}
+use mathlib.Core.Path.{◌≡◌, ◌∙◌, ap, refl}
 use mathlib.Core.Bool.{Bool, true, false, ◌||◌, ◌&&◌, true≢false, false≢true}
 use mathlib.Core.List.{List, [], ◌∷◌}
-use Prim.Native.Nat.{ℕ, ◌<◌, ◌≤◌}
+use Prim.Native.Nat.{ℕ, ◌<◌}
 use native.Mathlib.Decide.{ℕ_discrete, dec_lt}
 use native.Mathlib.Omega.{arith}
 use lib.Dec.{eqb}
-use lib.ListN.{get_or, set, length, length-set, get_or-eq_default}
+use lib.ListN.{get_or, set, length, length-set}
 use lib.Seq.{get_or-set_same, get_or-set_other, set_out}
 use borrow.Author.Tests.{eq-eqb}
-use Rattle.bits.specs.Bits.{bit, is_on, merge_of, Change, change, changes, touches}
+use Rattle.bits.specs.Bits.{bit, is_on, merge_of, Change, changes, touches}
 use Rattle.bits.specs.Claims.{ChangesKeep}
 use Rattle.bits.proofs.BitLaws.{merge_kept, merge_given, bit_off}
 
@@ -30,10 +30,6 @@ and_left false b e = e
 pub and_right : (a b : Bool) → (a && b) ≡ true → b ≡ true
 and_right true b e = e
 and_right false b e = absurd (false≢true e)
-
--- ---- a byte stored beyond the list
-pub put_out : (rs : List ℕ) (at b : ℕ) → length rs ≤ at → rs ≡ set rs at b
-put_out rs at b h = sym (set_out rs at b h)
 
 -- ---- changes
 pub changes_length : (cs : List Change) (rs : List ℕ) → length (changes rs cs) ≡ length rs
@@ -68,16 +64,3 @@ changes_keep rs (c ∷ cs) k j m hj e =
     (or_right (eqb k c.cell && is_on c.mask j) (touches cs k j) e)
     ∙ one_keeps rs c.cell c.mask c.byte m.0 k j hj
     (or_left (eqb k c.cell && is_on c.mask j) (touches cs k j) e)
-
--- ---- what the functions compute, in the words of the definitions
-pub store_in : (rs : List ℕ) (cell mask byte r : ℕ) → r ≡ merge_of (get_or rs cell 0) mask byte
-    → set rs cell r ≡ changes rs (change cell mask byte ∷ [])
-unfolding changes
-store_in rs cell mask byte r e = ap (set rs cell) e
-
-pub store_out : (rs : List ℕ) (cell mask byte : ℕ) → length rs ≤ cell → rs ≡ changes rs (change cell mask byte ∷ [])
-unfolding changes
-store_out rs cell mask byte h = sym (set_out rs cell _ h)
-
-pub cell_out : (rs : List ℕ) (c : ℕ) → length rs ≤ c → 0 ≡ get_or rs c 0
-cell_out rs c h = sym (get_or-eq_default rs 0 h)

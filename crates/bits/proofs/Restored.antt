@@ -1,7 +1,7 @@
--- Power-on and reset of cells, whatever their number, power-on values and those kept: what each gets, and the loop that
--- restores them one by one. Assumes nothing.
+-- Power-on and reset of cells, whatever their number, power-on values and those kept, and the loop that restores them
+-- one by one. Assumes nothing.
 use mathlib.Core.Path.{◌≡◌, ap, sym, ◌∙◌, refl}
-use mathlib.Core.Bool.{Bool, true, false, not, true≢false, false≢true}
+use mathlib.Core.Bool.{Bool, true, false}
 use mathlib.Core.List.{List}
 use Prim.Native.Nat.{ℕ, suc, ◌<◌}
 use native.Mathlib.Omega.{arith}
@@ -11,22 +11,6 @@ use Rattle.bits.specs.Map.{power_on_cells, reset_cells, restored_cell, restored_
 use Rattle.bits.proofs.Tables.{tabulate_length, tabulate_at, over, over_next, over_at}
 
 module _ (power_on : ℕ → ℕ) (kept : ℕ → Bool) where
-  -- ---- one cell, by the cases of the code
-  pub restored_all : (keep : Bool) (c old p : ℕ) → not keep ≡ true → p ≡ power_on c
-      → p ≡ restored_cell power_on kept keep c old
-  restored_all true c old p n e = absurd (false≢true n)
-  restored_all false c old p n e = e
-
-  pub restored_kept : (keep h : Bool) (c old : ℕ) → not keep ≡ false → h ≡ kept c → h ≡ true
-      → old ≡ restored_cell power_on kept keep c old
-  restored_kept true h c old n e f = simp (← e, f)
-  restored_kept false h c old n e f = absurd (true≢false n)
-
-  pub restored_other : (keep h : Bool) (c old p : ℕ) → not keep ≡ false → h ≡ kept c → h ≡ false → p ≡ power_on c
-      → p ≡ restored_cell power_on kept keep c old
-  restored_other true h c old p n e f g = simp (← e, f) g
-  restored_other false h c old p n e f g = absurd (true≢false n)
-
   module _ (n : ℕ) where
     -- ---- all of them
     pub reset_at : (rs : List ℕ) (c : ℕ) → c < n

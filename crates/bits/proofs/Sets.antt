@@ -1,19 +1,13 @@
--- Whether a number is in a set given as two words of bits, by the word that it falls in; and such a set held to a test.
+-- A set of numbers given as two words of bits: none from 128 on, and below what a test says by computing both.
 -- Assumes nothing.
 use mathlib.Core.Path.{◌≡◌, sym, ◌∙◌}
 use mathlib.Core.Bool.{Bool, false, beq}
-use Prim.Native.Nat.{ℕ, ◌-◌, ◌<◌, ◌≤◌}
+use Prim.Native.Nat.{ℕ, ◌≤◌}
 use native.Mathlib.Omega.{arith}
-use borrow.Author.Tests.{lt-ltb, le-ltb}
+use borrow.Author.Tests.{le-ltb}
 use lib.Dec.{T}
-use Rattle.bits.specs.Bits.{is_on, in_set}
+use Rattle.bits.specs.Bits.{in_set}
 use Rattle.bits.proofs.Every.{every, same_tests, by_bound}
-
-pub in_low : (l h n : ℕ) → n < 64 → is_on l n ≡ in_set l h n
-in_low l h n k = simp (lt-ltb n 64 k)
-
-pub in_high : (l h n : ℕ) → 64 ≤ n → n < 128 → is_on h (n - 64) ≡ in_set l h n
-in_high l h n k m = simp (le-ltb n 64 k, lt-ltb n 128 m)
 
 pub in_none : (l h n : ℕ) → 128 ≤ n → false ≡ in_set l h n
 in_none l h n k = simp (le-ltb n 64 (omega arith), le-ltb n 128 k)

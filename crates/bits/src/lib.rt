@@ -30,6 +30,7 @@ impl Bit {
 }
 
 // One bit of a byte, 0 or 1.
+#[tactic(auto, using(crate::proofs::BitLaws::low_digit), unfolding(crate::specs::Bits::bit))]
 pub fn bit_of(byte: u8, b: Bit) -> u8
     ensures { result ≡ bit byte (number_of b) }
 {
@@ -51,6 +52,7 @@ pub struct CellSet {
 }
 
 impl CellSet {
+    #[tactic(auto, unfolding(crate::specs::Bits::bit))]
     pub fn contains(self, number: usize) -> bool
         ensures { result ≡ in_set self.low self.high number }
     {
@@ -65,6 +67,7 @@ impl CellSet {
 }
 
 // The bits of the mask from the byte, every other bit from the old byte.
+#[tactic(auto, unfolding(crate::specs::Bits::merge_of))]
 pub fn merge(old: u8, mask: u8, byte: u8) -> u8
     ensures { result ≡ merge_of old mask byte }
 {
@@ -88,6 +91,7 @@ pub fn put(s: &mut [u8], at: usize, byte: u8)
 }
 
 // The bits of the mask, in one cell, from the byte.
+#[tactic(auto, unfolding(crate::specs::Bits::changes))]
 pub fn store(s: &mut [u8], cell: usize, mask: u8, byte: u8)
     ensures { s.new ≡ changes s.old (change cell mask byte ∷ []) }
 {

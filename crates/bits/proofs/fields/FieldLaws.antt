@@ -1,22 +1,21 @@
 -- Fields of bits, by induction over the list of places.
 -- Assumes nothing.
-use mathlib.Core.Path.{◌≡◌, ◌∙◌, ap, ap₂, sym, refl}
+use mathlib.Core.Path.{◌≡◌, ◌∙◌, ap₂, sym, refl}
 use mathlib.Core.Bool.{Bool, ◌||◌, not, ◌&&◌}
 use mathlib.Core.List.{List, [], ◌∷◌}
-use Prim.Native.Nat.{ℕ, suc, ◌+◌, ◌*◌, ◌/◌, ◌%◌, ◌^◌, ◌<◌, ◌≤◌}
-use native.Mathlib.Nat.{mod-lt, pow-suc, mod-one, one-mul, div-div-eq-div-mul}
+use Prim.Native.Nat.{ℕ, suc, ◌+◌, ◌*◌, ◌/◌, ◌%◌, ◌^◌, ◌<◌}
+use native.Mathlib.Nat.{mod-lt, pow-suc, mod-one, div-div-eq-div-mul}
 use native.Mathlib.Omega.{arith}
 use lib.Arith.{mod-mul}
 use lib.Pow.{pow_pos}
-use lib.Bits.{bit_and, bit_or}
+use lib.Bits.{bit_or}
 use lib.Dec.{eqb, eqb→eq, ltb, lit<}
-use lib.ListN.{get_or, length, length-set, get_or-eq_default}
+use lib.ListN.{get_or, length, length-set}
 use borrow.Author.Tests.{ltb-true, not-true}
 use Rattle.bits.specs.Bits.{bit, is_on, change, changes, touches, number_of}
 use Rattle.bits.specs.Claims.{Masks}
-use Rattle.bits.specs.declared.Bit.{Bit}
 use Rattle.bits.proofs.Every.{every, every_at, every_at2, same_below, less_below, same_below2}
-use Rattle.bits.proofs.BitLaws.{bit_placed, bit_lt, bit_none, low_digit, shifted, number_lt, bool_same, one_if}
+use Rattle.bits.proofs.BitLaws.{bit_placed, bit_lt, number_lt, bool_same, one_if}
 use Rattle.bits.proofs.ChangeLaws.{and_left, and_right, one, one_given, changes_keep}
 use Rattle.bits.specs.declared.fields.Place.{Place}
 use Rattle.bits.specs.Fields.{gather_of, digits_of, replace_of, is_in, distinct, apart, inside}
@@ -86,9 +85,6 @@ other_stays rs ps (q ∷ qs) v e =
     (other_stays rs ps qs v (and_right (not (is_in ps q.cell j)) (apart ps qs) e))
 
 -- ---- what the functions compute, in the words of the definitions
-pub read_out : (rs : List ℕ) (cell j : ℕ) → length rs ≤ cell → 0 ≡ bit (get_or rs cell 0) j
-read_out rs cell j h = sym (ap (λ (x : ℕ). bit x j) (get_or-eq_default rs 0 h) ∙ bit_none j)
-
 digit_lt : (x n j : ℕ) → x ≡ bit n j → x < 2
 digit_lt x n j e = rw e (bit_lt n j)
 
@@ -106,18 +102,6 @@ gather_in rs p q r x y z ex ey ez =
     (every_at (joined x y) 2
     (every_at2 (λ a b. every (joined a b) 2) 2 2 tt x y (digit_lt _ _ _ ex) (digit_lt _ _ _ ey)) z (digit_lt _ _ _ ez))
     ∙ rw (ex, ey, ez)
-
-pub put_in : (rs ts : List ℕ) (cell d n : ℕ) (b : Bit) → n ≡ number_of b
-    → ts ≡ changes rs (change cell (1 * 2 ^ n % 256) (bit_and d 1 * 2 ^ n % 256) ∷ [])
-    → ts ≡ changes rs (change cell (2 ^ number_of b) (d % 2 * 2 ^ number_of b) ∷ [])
-put_in rs ts cell d n b en et =
-    et ∙ rw (
-      en,
-      low_digit,
-      shifted 1 (number_of b) (lit< tt) (number_lt b),
-      shifted (d % 2) (number_of b) (mod-lt d (lit< tt)) (number_lt b),
-      one-mul,
-    )
 
 pub replace_in : (rs s t u : List ℕ) (p q r : Place) (v : ℕ)
     → s ≡ changes rs (change p.cell (2 ^ number_of p.bit) (v % 2 * 2 ^ number_of p.bit) ∷ [])

@@ -1,20 +1,19 @@
 -- A table's rows are the names, by a test of each row; and what is put of a row is put of its name.
 -- Assumes nothing.
-use Prim.Native.Nat.{ℕ, ◌+◌, ◌-◌, ◌*◌, ◌≤◌, ◌<◌}
+use Prim.Native.Nat.{ℕ, ◌+◌, ◌-◌, ◌≤◌, ◌<◌}
 use native.Mathlib.Omega.{arith}
 use mathlib.Core.Path.{◌≡◌, refl}
 use mathlib.Core.Bool.{Bool, true, false}
 use mathlib.Core.List.{List, [], ◌∷◌}
 use borrow.Author.Tests.{le-ltb, lt-ltb}
 use lib.Dec.{T, eqb, eqb→eq}
-use lib.ListN.{take, drop}
 use Rattle.bits.proofs.Every.{both, both_left, both_right, every, every_at}
 use Rattle.text.proofs.Puts.{◌then◌}
 use Rattle.text.specs.Text.{ascii}
 use Rattle.text.specs.Pages.{Puts}
 use Rattle.text.specs.declared.Page.{Page}
 use Rattle.w83782d_names.specs.Names.{Named, no_register, find}
-use Rattle.w83782d_names.specs.Rows.{row_of, trimmed, EndOf, sensor_rows, sensor_name}
+use Rattle.w83782d_names.specs.Rows.{row_of, trimmed, sensor_rows, sensor_name}
 
 abbrev pub same : List ℕ → List ℕ → Bool
 same [] [] = true
@@ -42,12 +41,6 @@ same_from f g first n t i h k =
 -- ---- as it is put
 pub put_same : (o p : Page) (w v : List ℕ) → w ≡ v → Puts o w p → Puts o v p
 put_same o p w v e f = rw e at f
-
-pub put_trimmed : (o p : Page) (t : List ℕ) (end width row : ℕ) → EndOf t (row * width) (row * width + width) end
-    → Puts o (take (end - row * width) (drop (row * width) t)) p → Puts o (trimmed (row_of t width row)) p
-put_trimmed o p t end width row e f =
-    let w : row * width + width - row * width ≡ width = omega arith in
-    rw (e.bytes, w) at f
 
 -- the row of an index in a table that starts at the index first
 abbrev pub row_for : List ℕ → ℕ → ℕ → ℕ → List ℕ

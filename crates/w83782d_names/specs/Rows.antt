@@ -1,5 +1,5 @@
 -- Rows of a table of characters, each a name with spaces behind it.
-use Rattle.std.specs.Prelude.{ℕ, ◌-◌, ◌*◌, ◌≤◌, ◌≡◌, List, [], ◌∷◌, ◌++◌, eqb, ltb, take, drop}
+use Rattle.std.specs.Prelude.{ℕ, ◌*◌, List, [], ◌∷◌, ◌++◌, eqb, ltb, take, drop}
 use Rattle.bits.specs.Bits.{choose}
 use Rattle.text.specs.Text.{ascii}
 use Rattle.w83782d_names.specs.Names.{Named, ◌is◌, no_register, find}
@@ -17,12 +17,6 @@ before c (d ∷ ds) = c ∷ d ∷ ds
 unfoldable pub trimmed : List ℕ → List ℕ
 trimmed [] = []
 trimmed (c ∷ cs) = before c (trimmed cs)
-
--- where those of a part of a table end
-pub record EndOf (table : List ℕ) (from to end : ℕ) : Type 0 where
-  pub above : from ≤ end
-  pub below : end ≤ to
-  pub bytes : take (end - from) (drop from table) ≡ trimmed (take (to - from) (drop from table))
 
 -- 50h to 56h of the bank of sensor 2 or 3
 unfoldable pub sensor_rows : List Named

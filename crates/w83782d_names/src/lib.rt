@@ -8,7 +8,7 @@ ghost use Rattle.text.specs.Text.{ascii};
 ghost use Rattle.text.specs.Pages.{Puts};
 ghost use Rattle.w83782d_names.specs.Names.{find, reading_names, control_names, bank0_names};
 ghost use Rattle.w83782d_names.specs.Names.{bank4_names, banked, name_of, Names};
-ghost use Rattle.w83782d_names.specs.Rows.{row_of, trimmed, EndOf, sensor_name};
+ghost use Rattle.w83782d_names.specs.Rows.{row_of, trimmed, sensor_name};
 
 use text::Page;
 
@@ -114,29 +114,17 @@ const BANK_4: [u8; 16 * 18] = *b"\
     no register       \
     no register       ";
 
-// Where the characters of a part of a table end, without the spaces behind them.
-fn end_of(table: &[u8], from: usize, to: usize) -> usize
-    requires { (from ≤ to) × (to ≤ length table.now) }
-    ensures { EndOf table.now from to result }
-{
-    let mut end = to;
-    while end > from {
-        if table[end - 1] != b' ' {
-            return end;
-        }
-        end -= 1;
-    }
-    end
-}
-
 // A row of a table, without the spaces behind its name.
 fn put_row(page: &mut Page, table: &[u8], width: u8, row: u8)
     requires { (row + 1) * width ≤ length table.now }
     ensures { Puts page.old (trimmed (row_of table.now width row)) page.new }
 {
     let from = row as usize * width as usize;
-    let end = end_of(table, from, from + width as usize);
-    page.put_bytes(&table[from..end]);
+    let mut name = &table[from..from + width as usize];
+    while let Some((b' ', rest)) = name.split_last() {
+        name = rest;
+    }
+    page.put_bytes(name);
 }
 
 fn put_reading(page: &mut Page, index: u8)

@@ -16,8 +16,8 @@ use bits::{Bit, cell, is_on};
 use fan::{Divisor, Undivided};
 use w83782d_layout::samples::Sample;
 use w83782d_map::{
-    CELLS, CONFIGURATION, FAN_COUNTS, PIN_CONTROL, SENSOR_1, SENSOR_2, SENSOR_3, VBAT_FAN_DIVISOR,
-    VCOREA, VID_FAN_DIVISOR,
+    CELLS, CONFIGURATION, FAN_COUNTS, MINUS_5, MINUS_12, PIN_CONTROL, PLUS_3_3, PLUS_5, PLUS_12,
+    SENSOR_1, SENSOR_2, SENSOR_3, VBAT_FAN_DIVISOR, VCOREA, VID_FAN_DIVISOR, VINR0,
 };
 
 // ---- Readings
@@ -66,11 +66,18 @@ fn store_counts(s: &mut [u8; CELLS], x: Sample)
     s[FAN_COUNTS + 1..FAN_COUNTS + 4].copy_from_slice(&counts);
 }
 
+// Code by code: copied as a slice they are taken apart again to be compared, nine instructions more a sample.
 #[tactic(auto, unfolding(crate::specs::StoredParts::with_codes))]
 fn store_codes(s: &mut [u8; CELLS], x: Sample)
     ensures { s.new ≡ with_codes s.old x }
 {
-    s[VCOREA..VCOREA + 7].copy_from_slice(&x.codes);
+    s[VCOREA] = x.codes[0];
+    s[VINR0] = x.codes[1];
+    s[PLUS_3_3] = x.codes[2];
+    s[PLUS_5] = x.codes[3];
+    s[PLUS_12] = x.codes[4];
+    s[MINUS_12] = x.codes[5];
+    s[MINUS_5] = x.codes[6];
     s[SENSOR_1] = whole_code(x.sensor1);
 }
 

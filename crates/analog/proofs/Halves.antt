@@ -13,12 +13,10 @@ use mir.ValLaws.{to_z_pos, to_z-neg}
 use Rattle.std.proofs.Common.{Less, Equal, Greater}
 use Rattle.std.specs.Ordering.{is_le, int_cmp}
 use borrow.Author.Tests.{ltb-true, ltb-false, lt-ltb, le-ltb}
-use Rattle.bits.specs.Bits.{choose}
 use Rattle.numbers.specs.TwosComplement.{half8, half9, signed_of, code_of, holds}
 use Rattle.numbers.proofs.twos_complement.Complement.{low_half, upper}
-use Rattle.analog.specs.Temperature.{nine_bits, outside, half_code_of, half_answer, NineBits}
-use Rattle.analog.specs.declared.HalfCode.{HalfCode}
-use Rattle.std.specs.Prelude.{Option, Some, None}
+use Rattle.analog.specs.Temperature.{nine_bits, outside, half_code_of, NineBits}
+use Rattle.std.specs.Prelude.{Some}
 
 bytes : (code : ℕ) → nine_bits (code / 2) (code % 2 * 128) ≡ code
 bytes code =
@@ -83,36 +81,17 @@ signed_byte n h = go (ltb n 128) refl
 pub nine_bits_hold : NineBits
 nine_bits_hold = record { beyond = beyond; bytes = bytes }
 
--- ---- the bytes of half degrees, by their cases
-module _ (z : ℤ) where
-  pub half_out : outside z ≡ true → None ≡ half_code_of z
-  unfolding half_code_of
-  half_out e = simp e
+pub inside : (z : ℤ) → holds half9 z ≡ true → outside z ≡ false
+inside z e = beyond z ∙ ap not e
 
-  pub half_in : (r : ℕ) → outside z ≡ false → r ≡ code_of half9 z → Some (record { high = r / 2; low = r % 2 * 128 }) ≡ half_code_of z
-  unfolding half_code_of
-  half_in r e q = simp e (ap (λ (n : ℕ). Some (record { high = n / 2; low = n % 2 * 128 })) q)
+pub half_in : (z : ℤ) (r : ℕ) → outside z ≡ false → r ≡ code_of half9 z
+    → Some (record { high = r / 2; low = r % 2 * 128 }) ≡ half_code_of z
+unfolding half_code_of
+half_in z r e q = simp e (ap (λ (n : ℕ). Some (record { high = n / 2; low = n % 2 * 128 })) q)
 
-  half_answer_law : half_answer (half_code_of z) ≡ choose (outside z) 3 0
-  unfolding half_code_of
-  half_answer_law = go (outside z)
-    where
-      go : (t : Bool)
-          → half_answer
-          (choose t None (Some (record { high = code_of half9 z / 2; low = code_of half9 z % 2 * 128 })))
-          ≡ choose t 3 0
-      go true = refl
-      go false = refl
-
-  pub half_answered : (r : Option HalfCode) → r ≡ half_code_of z → (r ≡ half_code_of z) × (half_answer r ≡ choose (outside z) 3 0)
-  half_answered r e = (e, ap half_answer e ∙ half_answer_law)
-
-  pub inside : holds half9 z ≡ true → outside z ≡ false
-  inside e = beyond z ∙ ap not e
-
-  pub held : outside z ≡ false → holds half9 z ≡ true
-  held e = go (holds half9 z) (sym (beyond z) ∙ e)
-    where
-      go : (b : Bool) → not b ≡ false → b ≡ true
-      go true n = refl
-      go false n = sym n
+pub held : (z : ℤ) → outside z ≡ false → holds half9 z ≡ true
+held z e = go (holds half9 z) (sym (beyond z) ∙ e)
+  where
+    go : (b : Bool) → not b ≡ false → b ≡ true
+    go true n = refl
+    go false n = sym n

@@ -61,6 +61,7 @@ impl HalfCode {
     }
 
     // Its half degrees.
+    #[tactic(auto, using(crate::proofs::Halves::nine_bits_hold))]
     pub fn degrees(self) -> i16
         ensures { (result ≡ signed_of half9 (nine_bits self.high self.low)) × TwosComplement × NineBits }
     {
@@ -76,6 +77,7 @@ impl HalfCode {
 }
 
 // Whether half degrees are outside -256 to 255.
+#[tactic(auto, using(crate::proofs::Halves::within))]
 pub fn is_outside(halves: i16) -> bool
     ensures { result ≡ outside halves }
 {
@@ -83,6 +85,7 @@ pub fn is_outside(halves: i16) -> bool
 }
 
 // The two bytes of half degrees; refused as 3, by None, exactly outside -256 to 255.
+#[tactic(auto, unfolding(crate::specs::Temperature::half_code_of))]
 pub fn half_code(halves: i16) -> Option<HalfCode>
     ensures equation { result ≡ half_code_of halves }
     ensures answer { half_answer result ≡ choose (outside halves) 3 0 }

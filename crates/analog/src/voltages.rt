@@ -56,6 +56,7 @@ impl Resistors {
 }
 
 // The millivolts of -12 or -5; None where a resistor is out of range.
+#[tactic(auto, using(crate::proofs::voltages::Voltages::rail_le), unfolding(crate::specs::Readings::rail_of))]
 fn rail(code: u8, resistors: Resistors) -> Option<i32>
     ensures { result ≡ rail_of code resistors.r5 resistors.r6 }
 {
@@ -68,6 +69,7 @@ fn rail(code: u8, resistors: Resistors) -> Option<i32>
 
 // The millivolts of a code on a channel: VCOREA, VINR0, +3.3, +5, +12, -12, -5 from 0.
 // The resistors count for the last two only. None: no such channel, or a resistor out of range.
+#[tactic(auto, using(crate::proofs::voltages::Voltages::answers_hold), unfolding(crate::specs::Readings::millivolts_of))]
 pub fn millivolts(channel: u8, code: u8, resistors: Resistors) -> Option<i32>
     ensures { (result ≡ millivolts_of channel code resistors.r5 resistors.r6) × VoltageAnswers }
 {

@@ -30,7 +30,7 @@ fn registers(s: &[u8]) -> Result<&[u8; CELLS], Refusal>
 }
 
 // The millivolts of a voltage channel, 0 to 6, with the resistors of the negative rails.
-#[tactic(auto, using(crate::proofs::Answers::reading_claims))]
+#[tactic(auto, using(crate::proofs::Answers::reading_claims), unfolding(crate::specs::Readings::voltage_of))]
 pub fn voltage(s: &[u8], channel: u8, resistors: Resistors) -> Result<i32, Refusal>
     ensures equation { result ≡ voltage_of s.now channel resistors.r5 resistors.r6 }
     ensures claims { ReadingClaims }
@@ -41,7 +41,7 @@ pub fn voltage(s: &[u8], channel: u8, resistors: Resistors) -> Result<i32, Refus
 }
 
 // The speed of a fan, 1 to 3, in tenths of rpm, by its stored count and the divisor now set.
-#[tactic(auto, using(crate::proofs::Answers::reading_claims))]
+#[tactic(auto, using(crate::proofs::Answers::reading_claims), unfolding(crate::specs::Readings::speed_of, crate::specs::Readings::speed_at))]
 pub fn speed(s: &[u8], fan: u8) -> Speed
     ensures equation { result ≡ speed_of s.now fan }
     ensures claims { ReadingClaims }
@@ -59,7 +59,7 @@ pub fn speed(s: &[u8], fan: u8) -> Speed
 }
 
 // The temperature of a sensor, 1 to 3, in half degrees; sensor 1's whole degrees doubled.
-#[tactic(auto, using(crate::proofs::Answers::reading_claims))]
+#[tactic(auto, using(crate::proofs::Answers::reading_claims), unfolding(crate::specs::Readings::temperature_of, crate::specs::Readings::temperature_at))]
 pub fn temperature_of(s: &[u8], sensor: u8) -> Result<i16, Refusal>
     ensures equation { result ≡ temperature_of s.now sensor }
     ensures claims { ReadingClaims }
@@ -84,7 +84,7 @@ pub fn temperature_of(s: &[u8], sensor: u8) -> Result<i16, Refusal>
 }
 
 // How many of 256 parts PWM output 1 to 4 is on.
-#[tactic(auto, using(crate::proofs::Answers::reading_claims))]
+#[tactic(auto, using(crate::proofs::Answers::reading_claims), unfolding(crate::specs::Readings::duty_of, crate::specs::Readings::duty_at))]
 pub fn duty_of(s: &[u8], output: u8) -> Result<u16, Refusal>
     ensures equation { result ≡ duty_of s.now output }
     ensures claims { ReadingClaims }

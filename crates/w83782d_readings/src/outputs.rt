@@ -20,6 +20,7 @@ pub struct Outputs {
 }
 
 // Whether SMI is asserted.
+#[tactic(auto, unfolding(crate::specs::Outputs::smi_of))]
 fn smi(s: &[u8; CELLS], chassis: bool) -> bool
     ensures { result ≡ smi_of s.now chassis }
 {
@@ -31,6 +32,7 @@ fn smi(s: &[u8; CELLS], chassis: bool) -> bool
 }
 
 // The number of standing alarms: the set bits of 41h and 42h.
+#[tactic(auto, unfolding(crate::specs::Outputs::standing_alarms))]
 fn standing_alarms(s: &[u8; CELLS], chassis: bool) -> u32
     ensures count { result ≡ standing_alarms s.now chassis }
     ensures few { result ≤ 16 }
@@ -40,7 +42,7 @@ fn standing_alarms(s: &[u8; CELLS], chassis: bool) -> u32
 }
 
 // SMI and the number of standing alarms; a slice that is not of 112 cells is refused as 8.
-#[tactic(auto, using(crate::proofs::outputs::Cases::alarms_counted_all))]
+#[tactic(auto, using(crate::proofs::outputs::Cases::alarms_counted_all), unfolding(crate::specs::Outputs::outputs_of))]
 pub fn outputs_of(s: &[u8], chassis: bool) -> Result<Outputs, Refusal>
     ensures equation { result ≡ outputs_of s.now chassis }
     ensures claims { AlarmsCounted }

@@ -1,47 +1,21 @@
--- SMI and standing alarms by their cases, over plain variables.
+-- The standing alarms: a figure, and what is claimed of them, bit by bit.
 -- Assumes nothing.
-use mathlib.Core.Path.{◌≡◌, refl, ◌∙◌}
-use mathlib.Core.Bool.{Bool, true, false, not, ◌&&◌}
-use Rattle.std.specs.Prelude.{Ok, Err}
-use Rattle.answers.specs.declared.Refusal.TheVariants.{WrongLength}
+use mathlib.Core.Path.{◌≡◌, refl}
+use mathlib.Core.Bool.{Bool, true, false}
 use mathlib.Core.List.{List}
 use Prim.Native.Nat.{ℕ, ◌<◌}
 use native.Mathlib.Omega.{arith}
-use borrow.Author.Tests.{eq-eqb, ne_eqb}
 use lib.Bits.{bit_and, and_le_r, or_lt}
 use lib.Count.{ones_in, ones, ones-le}
 use lib.Dec.{eqb, lit<}
-use lib.ListN.{length, get_or}
-use Rattle.bits.specs.Bits.{is_on, choose}
+use lib.ListN.{get_or}
+use Rattle.bits.specs.Bits.{choose}
 use Rattle.bits.specs.Map.{tabulate}
 use Rattle.status.proofs.StatusLaws.{counts_set_bits}
-use Rattle.status.specs.Status.{any_unmasked}
 use Rattle.w83782d_map.specs.Map.{cells}
-use Rattle.w83782d_map.specs.Cells.{configuration, interrupt_status1, interrupt_status2, smi_mask1, smi_mask2}
+use Rattle.w83782d_map.specs.Cells.{interrupt_status1, interrupt_status2}
 use Rattle.w83782d_registers.specs.Registers.{with_chassis, shown_of}
-use Rattle.w83782d_readings.specs.Outputs.{smi_of, standing_alarms, outputs_of, AlarmsCounted}
-
--- ---- SMI
-module _ (rs : List ℕ) (chassis a b : Bool) (z : ℕ) (ea : a ≡ is_on (get_or rs configuration 0) 1)
-    (eb : b ≡ is_on (get_or rs configuration 0) 3) (ez : z ≡ with_chassis (get_or rs interrupt_status2 0) chassis) where
-  smi_is : (a && not b && any_unmasked (get_or rs interrupt_status1 0) (get_or rs smi_mask1 0) z (get_or rs smi_mask2 0))
-      ≡ smi_of rs chassis
-  unfolding smi_of
-  smi_is = rw (ea, eb, ez)
-
-  module _ (t : a ≡ true) (v : Bool) (ev : v ≡ not b) where
-    pub smi_passed : (u : Bool) → v ≡ true
-        → u ≡ any_unmasked (get_or rs interrupt_status1 0) (get_or rs smi_mask1 0) z (get_or rs smi_mask2 0)
-        → u ≡ smi_of rs chassis
-    smi_passed u tv eu = eu ∙ (rw (t, ← ev, tv) at smi_is)
-
-    pub smi_cleared : v ≡ false → v ≡ smi_of rs chassis
-    smi_cleared fv = fv ∙ (rw (t, ← ev, fv) at smi_is)
-
-pub smi_disabled : (rs : List ℕ) (chassis a v : Bool) → a ≡ is_on (get_or rs configuration 0) 1 → a ≡ false → v ≡ a
-    → v ≡ smi_of rs chassis
-unfolding smi_of
-smi_disabled rs chassis a v ea fa e = e ∙ fa ∙ rw (← ea, fa)
+use Rattle.w83782d_readings.specs.Outputs.{standing_alarms, AlarmsCounted}
 
 -- ---- standing alarms
 
@@ -54,17 +28,6 @@ as_shown : (chassis : Bool) → standing_alarms some_status chassis ≡ choose c
 unfolding standing_alarms ones ones_in
 as_shown true = refl
 as_shown false = refl
-
--- ---- both, of any slice
-module _ (rs : List ℕ) (chassis : Bool) where
-  pub outputs_short : (length rs ≡ cells → ⊥) → Err WrongLength ≡ outputs_of rs chassis
-  unfolding outputs_of
-  outputs_short n = simp (ne_eqb (length rs) cells n)
-
-  pub outputs_shown : (b : Bool) (n : ℕ) → length rs ≡ cells → b ≡ smi_of rs chassis → n ≡ standing_alarms rs chassis
-      → Ok (record { smi = b; alarms = n }) ≡ outputs_of rs chassis
-  unfolding outputs_of
-  outputs_shown b n h e f = simp (eq-eqb (length rs) cells h, e, f)
 
 -- ---- the alarms, bit by bit
 

@@ -20,192 +20,134 @@
 //   reset            40h 80h: power-on values again, and fan 3 rings by d 2 and limit 0: u 1 is 0 by 2, u 2 is 1.
 #![tactic(auto)]
 
+use answers::{Refusal, answer_number};
 use fan::Undivided;
 use std::io;
-use text::{put_byte, put_bytes, put_decimal};
-use text_hex::put_small_hex;
 use w83782d::Monitor;
 use w83782d_layout::samples::Sample;
 
-// A line has a hundred bytes or so.
-const LINE_ROOM: usize = 4096;
-
-fn byte_at(m: Monitor, index: u8) -> u8 {
-    let done = m.read(index);
-    done.byte
+#[derive(Drop)]
+struct Session<'a, R> {
+    rt: &'a R,
+    monitor: Monitor,
 }
 
-fn select(m: Monitor, bank: u8) -> Monitor {
-    let done = m.write(0x4e, bank);
-    done.monitor
+// What an index shows while a bank is selected, by a look at a copy: nothing is cleared and no bank selected.
+fn shown(m: Monitor, bank: u8, index: u8) -> u8 {
+    m.write(0x4e, bank).monitor.look(index).answer.unwrap_or(0)
 }
 
-// ---- Parts of a line: each is put at a place, and answers the next
-
-// The byte that an index shows, after a label and a space.
-fn put_shown(out: &mut [u8], at: usize, label: &[u8], byte: u8) -> usize {
-    let next = put_bytes(out, at, label);
-    put_small_hex(out, next, byte)
-}
-
-// The registers that a plan writes, of a copy: what is shown clears nothing and selects no bank.
-fn put_settings(out: &mut [u8], at: usize, m: Monitor) -> usize {
-    let zero = select(m, 0);
-    let mut next = put_shown(out, at, b", 47h ", byte_at(m, 0x47));
-    next = put_shown(out, next, b", 4Bh ", byte_at(m, 0x4b));
-    put_shown(out, next, b", 5Dh ", byte_at(zero, 0x5d))
-}
-
-fn put_limits(out: &mut [u8], at: usize, m: Monitor) -> usize {
-    let mut next = put_shown(out, at, b", limits ", byte_at(m, 0x3b));
-    next = put_shown(out, next, b" ", byte_at(m, 0x3c));
-    put_shown(out, next, b" ", byte_at(m, 0x3d))
-}
-
-fn put_flag(out: &mut [u8], at: usize, on: bool) -> usize {
-    if on {
-        return put_bytes(out, at, b" 1");
+impl<R: Print> Session<'_, R> {
+    // The answer, the registers that a plan writes, the three limits, and which fans' real-time bits are set.
+    fn report(&self, name: &str, answer: Result<(), Refusal>) -> io::Result<()> {
+        let at = |bank: u8, index: u8| shown(self.monitor, bank, index);
+        let rings = |index: u8, mask: u8| u8::from(at(4, index) & mask != 0);
+        print!(self.rt; "{name}: answer {}", answer_number(answer))?;
+        print!(self.rt;
+            ", 47h {:02x}, 4Bh {:02x}, 5Dh {:02x}",
+            at(0, 0x47),
+            at(0, 0x4b),
+            at(0, 0x5d)
+        )?;
+        print!(self.rt;
+            ", limits {:02x} {:02x} {:02x}",
+            at(0, 0x3b),
+            at(0, 0x3c),
+            at(0, 0x3d)
+        )?;
+        println!(self.rt;
+            ", rings {} {} {}",
+            rings(0x59, 0x40),
+            rings(0x59, 0x80),
+            rings(0x5a, 0x08)
+        )
     }
-    put_bytes(out, at, b" 0")
-}
 
-fn put_rings(out: &mut [u8], at: usize, m: Monitor) -> usize {
-    let four = select(m, 4);
-    let first = byte_at(four, 0x59);
-    let second = byte_at(four, 0x5a);
-    let mut next = put_bytes(out, at, b", rings");
-    next = put_flag(out, next, first & 0x40 != 0);
-    next = put_flag(out, next, first & 0x80 != 0);
-    put_flag(out, next, second & 0x08 != 0)
-}
-
-fn put_step(out: &mut [u8], name: &[u8], answer: u8) -> usize {
-    let mut next = put_bytes(out, 0, name);
-    next = put_bytes(out, next, b": answer ");
-    put_decimal(out, next, answer as u64)
-}
-
-fn put_report(out: &mut [u8], m: Monitor, name: &[u8], answer: u8) -> usize {
-    let mut next = put_step(out, name, answer);
-    next = put_settings(out, next, m);
-    next = put_limits(out, next, m);
-    next = put_rings(out, next, m);
-    put_byte(out, next, b'\n')
-}
-
-fn write_line(rt: &impl Print, line: &[u8], end: usize) -> io::Result<()> {
-    if end <= line.len() {
-        return rt.write_all(&line[0..end]);
+    fn plan(&mut self, name: &str, fan: u8, rpm: u32) -> io::Result<()> {
+        let done = self.monitor.set_plan(fan, rpm);
+        self.monitor = done.monitor;
+        self.report(name, done.answer)
     }
-    Ok(())
-}
 
-fn report(rt: &impl Print, m: Monitor, name: &[u8], answer: u8) -> io::Result<()> {
-    let mut line = [0u8; LINE_ROOM];
-    let end = put_report(&mut line, m, name, answer);
-    write_line(rt, &line, end)
-}
+    fn write(&mut self, name: &str, index: u8, value: u8) -> io::Result<()> {
+        let done = self.monitor.write(index, value);
+        self.monitor = done.monitor;
+        self.report(name, done.answer)
+    }
 
-// ---- Steps
+    // A sample with these undivided counts.
+    fn sample(&mut self, name: &str, u1: u32, u2: u32, u3: u32) -> io::Result<()> {
+        let done = self.monitor.sample(Sample {
+            codes: [0; 7],
+            sensor1: 0,
+            remote: [0, 0],
+            counts: [Undivided(u1), Undivided(u2), Undivided(u3)],
+        });
+        self.monitor = done.monitor;
+        self.report(name, done.answer)
+    }
 
-fn plan(rt: &impl Print, m: Monitor, name: &[u8], fan: u8, rpm: u32) -> io::Result<Monitor> {
-    let done = m.set_plan(fan, rpm);
-    let after = done.monitor;
-    report(rt, after, name, done.answer)?;
-    Ok(after)
-}
+    fn two_fans(&mut self) -> io::Result<()> {
+        self.plan("1 at 4400", 1, 4400)?;
+        self.sample("u 305", 305, 0, 0)?;
+        self.sample("u 306", 306, 0, 0)?;
+        self.plan("2 at 42", 2, 42)?;
+        self.sample("2 not slow", 305, 32127, 0)?;
+        self.sample("2 slow", 306, 32128, 0)
+    }
 
-fn write(rt: &impl Print, m: Monitor, name: &[u8], index: u8, value: u8) -> io::Result<Monitor> {
-    let done = m.write(index, value);
-    let after = done.monitor;
-    report(rt, after, name, done.answer)?;
-    Ok(after)
-}
+    // The accident: a tool writes the whole of 47h.
+    fn rewritten(&mut self) -> io::Result<()> {
+        self.write("47h 90", 0x47, 0x90)?;
+        self.sample("u 305", 305, 0, 0)?;
+        self.sample("u 306", 306, 0, 0)?;
+        self.write("47h C0", 0x47, 0xc0)?;
+        self.sample("u 305", 305, 0, 0)
+    }
 
-// A sample with these undivided counts.
-fn sample(
-    rt: &impl Print,
-    m: Monitor,
-    name: &[u8],
-    u1: u32,
-    u2: u32,
-    u3: u32,
-) -> io::Result<Monitor> {
-    let x = Sample {
-        codes: [0, 0, 0, 0, 0, 0, 0],
-        sensor1: 0,
-        remote: [0, 0],
-        counts: [Undivided(u1), Undivided(u2), Undivided(u3)],
-    };
-    let done = m.sample(x);
-    let after = done.monitor;
-    report(rt, after, name, done.answer)?;
-    Ok(after)
-}
+    fn aliased(&mut self) -> io::Result<()> {
+        self.plan("1 again", 1, 4400)?;
+        self.write("7Bh 98", 0x7b, 0x98)?;
+        self.sample("u 305", 305, 0, 0)?;
+        self.sample("u 306", 306, 0, 0)?;
+        self.write("7Bh 10", 0x7b, 0x10)?;
+        self.sample("u 40", 40, 0, 0)
+    }
 
-fn two_fans(rt: &impl Print, start: Monitor) -> io::Result<Monitor> {
-    let mut m = start;
-    m = plan(rt, m, b"1 at 4400", 1, 4400)?;
-    m = sample(rt, m, b"u 305", 305, 0, 0)?;
-    m = sample(rt, m, b"u 306", 306, 0, 0)?;
-    m = plan(rt, m, b"2 at 42", 2, 42)?;
-    m = sample(rt, m, b"2 not slow", 305, 32127, 0)?;
-    m = sample(rt, m, b"2 slow", 306, 32128, 0)?;
-    Ok(m)
-}
+    fn stopped(&mut self) -> io::Result<()> {
+        self.write("bank 3", 0x4e, 0x03)?;
+        self.write("standby", 0x40, 0x00)?;
+        self.plan("3 at 5295", 3, 5295)?;
+        self.sample("stopped", 0, 0, 254)?;
+        self.write("start", 0x40, 0x01)?;
+        self.sample("3 not slow", 0, 0, 253)?;
+        self.sample("3 slow", 0, 0, 254)
+    }
 
-// The accident: a tool writes the whole of 47h.
-fn rewritten(rt: &impl Print, start: Monitor) -> io::Result<Monitor> {
-    let mut m = start;
-    m = write(rt, m, b"47h 90", 0x47, 0x90)?;
-    m = sample(rt, m, b"u 305", 305, 0, 0)?;
-    m = sample(rt, m, b"u 306", 306, 0, 0)?;
-    m = write(rt, m, b"47h C0", 0x47, 0xc0)?;
-    m = sample(rt, m, b"u 305", 305, 0, 0)?;
-    Ok(m)
-}
+    fn refused(&mut self) -> io::Result<()> {
+        self.plan("fan 4", 4, 4400)?;
+        self.plan("fan 0 at 0", 0, 0)?;
+        self.plan("3 at 0", 3, 0)?;
+        self.plan("3 at 1350001", 3, 1350001)?;
+        self.sample("3 slow", 0, 0, 254)
+    }
 
-fn aliased(rt: &impl Print, start: Monitor) -> io::Result<Monitor> {
-    let mut m = start;
-    m = plan(rt, m, b"1 again", 1, 4400)?;
-    m = write(rt, m, b"7Bh 98", 0x7b, 0x98)?;
-    m = sample(rt, m, b"u 305", 305, 0, 0)?;
-    m = sample(rt, m, b"u 306", 306, 0, 0)?;
-    m = write(rt, m, b"7Bh 10", 0x7b, 0x10)?;
-    m = sample(rt, m, b"u 40", 40, 0, 0)?;
-    Ok(m)
-}
-
-fn stopped(rt: &impl Print, start: Monitor) -> io::Result<Monitor> {
-    let mut m = start;
-    m = write(rt, m, b"bank 3", 0x4e, 0x03)?;
-    m = write(rt, m, b"standby", 0x40, 0x00)?;
-    m = plan(rt, m, b"3 at 5295", 3, 5295)?;
-    m = sample(rt, m, b"stopped", 0, 0, 254)?;
-    m = write(rt, m, b"start", 0x40, 0x01)?;
-    m = sample(rt, m, b"3 not slow", 0, 0, 253)?;
-    m = sample(rt, m, b"3 slow", 0, 0, 254)?;
-    Ok(m)
-}
-
-fn refused(rt: &impl Print, start: Monitor) -> io::Result<Monitor> {
-    let mut m = start;
-    m = plan(rt, m, b"fan 4", 4, 4400)?;
-    m = plan(rt, m, b"fan 0 at 0", 0, 0)?;
-    m = plan(rt, m, b"3 at 0", 3, 0)?;
-    m = plan(rt, m, b"3 at 1350001", 3, 1350001)?;
-    m = sample(rt, m, b"3 slow", 0, 0, 254)?;
-    Ok(m)
+    fn reset(&mut self) -> io::Result<()> {
+        self.write("reset", 0x40, 0x80)?;
+        self.sample("u 1", 0, 0, 1)?;
+        self.sample("u 2", 0, 0, 2)
+    }
 }
 
 fn main(rt: HostRuntime) -> io::Result<()> {
-    let mut m = two_fans(&rt, Monitor::power_on())?;
-    m = rewritten(&rt, m)?;
-    m = aliased(&rt, m)?;
-    m = stopped(&rt, m)?;
-    m = refused(&rt, m)?;
-    m = write(&rt, m, b"reset", 0x40, 0x80)?;
-    m = sample(&rt, m, b"u 1", 0, 0, 1)?;
-    sample(&rt, m, b"u 2", 0, 0, 2)?;
-    Ok(())
+    let mut s = Session {
+        rt: &rt,
+        monitor: Monitor::power_on(),
+    };
+    s.two_fans()?;
+    s.rewritten()?;
+    s.aliased()?;
+    s.stopped()?;
+    s.refused()?;
+    s.reset()
 }

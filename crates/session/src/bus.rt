@@ -1,97 +1,87 @@
 // A short bus session, as a driver's: it finds the chip, switches banks, and is refused in each way.
 // A line for each access: what it was, the answer, and the byte that a read shows.
-use crate::lines::print_answer;
+use crate::Session;
+use answers::answer_number;
 use std::io;
-use w83782d::Monitor;
 
-fn write(rt: &impl Print, m: Monitor, index: u8, value: u8) -> io::Result<Monitor> {
-    let done = m.write(index, value);
-    print!(rt; "write {index:02x} {value:02x}")?;
-    print_answer(rt, done.answer)?;
-    println!(rt)?;
-    Ok(done.monitor)
-}
+impl<R: Print> Session<'_, R> {
+    fn write(&mut self, index: u8, value: u8) -> io::Result<()> {
+        let done = self.monitor.write(index, value);
+        self.monitor = done.monitor;
+        let answer = answer_number(done.answer);
+        println!(self.rt; "write {index:02x} {value:02x}: answer {answer}")
+    }
 
-fn read(rt: &impl Print, m: Monitor, index: u8) -> io::Result<Monitor> {
-    let done = m.read(index);
-    print!(rt; "read {index:02x}")?;
-    print_answer(rt, done.answer)?;
-    println!(rt; ", byte {:02x}", done.byte)?;
-    Ok(done.monitor)
-}
+    fn read(&mut self, index: u8) -> io::Result<()> {
+        let done = self.monitor.read(index);
+        self.monitor = done.monitor;
+        let answer = answer_number(done.answer);
+        let byte = done.answer.unwrap_or(0);
+        println!(self.rt; "read {index:02x}: answer {answer}, byte {byte:02x}")
+    }
 
-fn opened(rt: &impl Print, m: Monitor) -> io::Result<Monitor> {
-    let done = m.chassis_opened();
-    print!(rt; "chassis opened")?;
-    print_answer(rt, done.answer)?;
-    println!(rt)?;
-    Ok(done.monitor)
-}
+    fn open_chassis(&mut self) -> io::Result<()> {
+        let done = self.monitor.chassis_opened();
+        self.monitor = done.monitor;
+        let answer = answer_number(done.answer);
+        println!(self.rt; "chassis opened: answer {answer}")
+    }
 
-// The vendor bytes by 4Eh bit 7, the chip, and its address.
-fn detect(rt: &impl Print, start: Monitor) -> io::Result<Monitor> {
-    let mut m = start;
-    m = write(rt, m, 0x4e, 0x80)?;
-    m = read(rt, m, 0x4f)?;
-    m = write(rt, m, 0x4e, 0x00)?;
-    m = read(rt, m, 0x4f)?;
-    m = read(rt, m, 0x58)?;
-    m = read(rt, m, 0x48)?;
-    Ok(m)
-}
+    // The vendor bytes by 4Eh bit 7, the chip, and its address.
+    fn detect(&mut self) -> io::Result<()> {
+        self.write(0x4e, 0x80)?;
+        self.read(0x4f)?;
+        self.write(0x4e, 0x00)?;
+        self.read(0x4f)?;
+        self.read(0x58)?;
+        self.read(0x48)
+    }
 
-// Bank 1 keeps a limit of its own at an index that bank 0 does not have; 60h-7Fh ignores the bank.
-fn banks(rt: &impl Print, start: Monitor) -> io::Result<Monitor> {
-    let mut m = start;
-    m = write(rt, m, 0x4e, 0x01)?;
-    m = read(rt, m, 0x55)?;
-    m = write(rt, m, 0x55, 0x46)?;
-    m = read(rt, m, 0x55)?;
-    m = write(rt, m, 0x7b, 0x99)?;
-    m = write(rt, m, 0x4e, 0x00)?;
-    m = read(rt, m, 0x3b)?;
-    m = read(rt, m, 0x55)?;
-    Ok(m)
-}
+    // Bank 1 keeps a limit of its own at an index that bank 0 does not have; 60h-7Fh ignores the bank.
+    fn banks(&mut self) -> io::Result<()> {
+        self.write(0x4e, 0x01)?;
+        self.read(0x55)?;
+        self.write(0x55, 0x46)?;
+        self.read(0x55)?;
+        self.write(0x7b, 0x99)?;
+        self.write(0x4e, 0x00)?;
+        self.read(0x3b)?;
+        self.read(0x55)
+    }
 
-// 1 below 20h, above 7Fh, reserved, in an absent bank; 2 for a register that can't be written.
-fn refusals(rt: &impl Print, start: Monitor) -> io::Result<Monitor> {
-    let mut m = start;
-    m = read(rt, m, 0x1f)?;
-    m = read(rt, m, 0x80)?;
-    m = read(rt, m, 0x45)?;
-    m = write(rt, m, 0x4e, 0x03)?;
-    m = write(rt, m, 0x50, 0xff)?;
-    m = read(rt, m, 0x50)?;
-    m = write(rt, m, 0x4e, 0x00)?;
-    m = write(rt, m, 0x20, 0xff)?;
-    m = write(rt, m, 0x58, 0x00)?;
-    Ok(m)
-}
+    // 1 below 20h, above 7Fh, reserved, in an absent bank; 2 for a register that can't be written.
+    fn refusals(&mut self) -> io::Result<()> {
+        self.read(0x1f)?;
+        self.read(0x80)?;
+        self.read(0x45)?;
+        self.write(0x4e, 0x03)?;
+        self.write(0x50, 0xff)?;
+        self.read(0x50)?;
+        self.write(0x4e, 0x00)?;
+        self.write(0x20, 0xff)?;
+        self.write(0x58, 0x00)
+    }
 
-// The chassis bit is the latch: reads leave it, 46h clears it. A reset keeps the address.
-fn chassis_and_reset(rt: &impl Print, start: Monitor) -> io::Result<Monitor> {
-    let mut m = start;
-    m = opened(rt, m)?;
-    m = read(rt, m, 0x42)?;
-    m = read(rt, m, 0x42)?;
-    m = write(rt, m, 0x46, 0x80)?;
-    m = read(rt, m, 0x42)?;
-    m = write(rt, m, 0x47, 0xff)?;
-    m = read(rt, m, 0x47)?;
-    m = write(rt, m, 0x48, 0x2e)?;
-    m = write(rt, m, 0x40, 0xff)?;
-    m = read(rt, m, 0x40)?;
-    m = read(rt, m, 0x47)?;
-    m = read(rt, m, 0x48)?;
-    Ok(m)
-}
+    // The chassis bit is the latch: reads leave it, 46h clears it. A reset keeps the address.
+    fn chassis_and_reset(&mut self) -> io::Result<()> {
+        self.open_chassis()?;
+        self.read(0x42)?;
+        self.read(0x42)?;
+        self.write(0x46, 0x80)?;
+        self.read(0x42)?;
+        self.write(0x47, 0xff)?;
+        self.read(0x47)?;
+        self.write(0x48, 0x2e)?;
+        self.write(0x40, 0xff)?;
+        self.read(0x40)?;
+        self.read(0x47)?;
+        self.read(0x48)
+    }
 
-pub(crate) fn session(rt: &impl Print) -> io::Result<()> {
-    let mut m = Monitor::power_on();
-    m = detect(rt, m)?;
-    m = banks(rt, m)?;
-    m = refusals(rt, m)?;
-    chassis_and_reset(rt, m)?;
-    Ok(())
+    pub(crate) fn access(&mut self) -> io::Result<()> {
+        self.detect()?;
+        self.banks()?;
+        self.refusals()?;
+        self.chassis_and_reset()
+    }
 }

@@ -3,12 +3,28 @@
 #![tactic(auto)]
 
 mod bus;
-mod lines;
 mod samples;
 
 use std::io;
+use w83782d::Monitor;
+
+// Where the lines go, and the monitor.
+#[derive(Drop)]
+struct Session<'a, R> {
+    rt: &'a R,
+    monitor: Monitor,
+}
+
+impl<'a, R> Session<'a, R> {
+    fn power_on(rt: &'a R) -> Self {
+        Session {
+            rt,
+            monitor: Monitor::power_on(),
+        }
+    }
+}
 
 fn main(rt: HostRuntime) -> io::Result<()> {
-    bus::session(&rt)?;
-    samples::session(&rt)
+    Session::power_on(&rt).access()?;
+    Session::power_on(&rt).take_samples()
 }

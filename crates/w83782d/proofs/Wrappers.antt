@@ -2,7 +2,6 @@
 -- Assumes nothing.
 use mathlib.Core.Path.{◌≡◌, refl, ap, ◌∙◌}
 use mathlib.Core.List.{List}
-use mathlib.Core.Bool.{Bool, false}
 use Prim.Native.Nat.{ℕ}
 use borrow.Author.Tests.{eq-eqb}
 use lib.ListN.{length}
@@ -10,15 +9,12 @@ use Rattle.std.specs.Prelude.{Result, Ok, Err}
 use Rattle.std.specs.Result.{result_and}
 use Rattle.answers.specs.declared.Refusal.{Refusal}
 use Rattle.answers.specs.Refusals.{answer_of}
-use Rattle.answers.proofs.Refusals.{is_refused}
 use Rattle.w83782d_map.specs.Map.{cells}
 use Rattle.w83782d_latches.specs.Effects.{power_on_latches}
 use Rattle.w83782d_bus.specs.Bus.{state, power_on, written, Written, Read, Looked, looked_of, looked_in, looked_as, leaving, sized}
 use Rattle.w83782d_bus.specs.Bus.{sized_read, outcome_in, read_outcome_in}
 use Rattle.w83782d_latches.specs.declared.Latches.{Latches}
 use Rattle.w83782d_bus.specs.declared.Outcome.{Outcome}
-use Rattle.w83782d_readings.specs.Outputs.{smi_of, standing_alarms, outputs_of}
-use Rattle.w83782d_readings.specs.declared.outputs.Outputs.{Outputs}
 use Rattle.w83782d.specs.declared.Monitor.{Monitor}
 use Rattle.w83782d.specs.declared.Answered.{Answered}
 use Rattle.w83782d.specs.Monitor.{state_of, monitor_of, of_outcome, answer_as, shown_as, answered, shown, look_of, power_on_of}
@@ -68,36 +64,3 @@ pub looks : (m : Monitor) (i : ℕ) (r : Result ℕ Refusal) → length m.regist
 looks m i r h e =
     let g : looked_as r ≡ looked_of m.registers m.latches.chassis i = rw (eq-eqb (length m.registers) cells h) at e in
     ap (λ (y : Looked). shown (leaving (state_of m) y)) g
-
--- ---- SMI and standing alarms: a monitor's registers are 112 cells
-abbrev smi_in : Result Outputs Refusal → Bool
-smi_in (Ok o) = o.smi
-smi_in (Err _) = false
-
-abbrev alarms_in : Result Outputs Refusal → ℕ
-alarms_in (Ok o) = o.alarms
-alarms_in (Err _) = 0
-
-module _ (m : Monitor) (h : length m.registers ≡ cells) where
-  abbrev outputs : Result Outputs Refusal
-  outputs =
-      Ok
-      (record {
-        smi = smi_of m.registers m.latches.chassis;
-        alarms = standing_alarms m.registers m.latches.chassis;
-      })
-
-  both : outputs_of m.registers m.latches.chassis ≡ outputs
-  unfolding outputs_of
-  both = simp (eq-eqb (length m.registers) cells h)
-
-  pub smi_shown : (o : Outputs) → Ok o ≡ outputs_of m.registers m.latches.chassis
-      → o.smi ≡ smi_of m.registers m.latches.chassis
-  smi_shown o e = ap smi_in (e ∙ both)
-
-  pub alarms_shown : (o : Outputs) → Ok o ≡ outputs_of m.registers m.latches.chassis
-      → o.alarms ≡ standing_alarms m.registers m.latches.chassis
-  alarms_shown o e = ap alarms_in (e ∙ both)
-
-  pub never_short : (r : Refusal) → Err r ≡ outputs_of m.registers m.latches.chassis → ⊥
-  never_short r e = is_refused r (ap answer_of (e ∙ both))

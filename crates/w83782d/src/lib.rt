@@ -159,6 +159,7 @@ impl Monitor {
     }
 
     // Whether SMI is asserted.
+    #[tactic(auto, unfolding(w83782d_readings::specs::Outputs::outputs_of))]
     pub fn smi(self) -> bool
         ensures { result ≡ smi_of self.registers self.latches.chassis }
     {
@@ -169,6 +170,7 @@ impl Monitor {
     }
 
     // The number of standing alarms.
+    #[tactic(auto, unfolding(w83782d_readings::specs::Outputs::outputs_of))]
     pub fn standing_alarms(self) -> u32
         ensures equation { result ≡ standing_alarms self.registers self.latches.chassis }
         ensures claims { AlarmsCounted }

@@ -8,6 +8,7 @@ ghost use Rattle.w83782d_bus.specs.Bus.{power_on};
 ghost use Rattle.w83782d_day.specs.Report.{report_of};
 ghost use Rattle.w83782d_report_text.specs.ReportText.{report_text, text_room};
 
+use text::Page;
 use w83782d_report::Report;
 use w83782d_report_text::put_report;
 
@@ -19,5 +20,7 @@ pub extern "C" fn w83782d_report(log: &[u8], text: &mut [u8]) -> usize
     ensures short { result ≤ text_room }
 {
     let report = Report::start().feed(log);
-    put_report(text, 0, report)
+    let mut page = Page { out: text, at: 0 };
+    put_report(&mut page, &report);
+    page.at
 }

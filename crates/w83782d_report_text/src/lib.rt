@@ -1,17 +1,21 @@
-// The 28 lines of the report of a day, put into a lent buffer: the figures of each
-// reading, how often each bit of 41h and 42h was latched, and the end.
+// The 28 lines of the report of a day, put on a page: the figures of each reading, how often each bit of 41h and 42h was
+// latched, and the end.
 #![tactic(auto)]
 
-ghost use Rattle.std.specs.Prelude.{◌≡◌, ◌+◌, ◌≤◌, length};
-ghost use Rattle.text.specs.Text.{Put};
+ghost use Rattle.std.specs.Prelude.{◌≡◌, ◌+◌, ◌≤◌, ◌<◌};
+ghost use Rattle.text.specs.Pages.{Puts};
+ghost use Rattle.figures.specs.Figure.{figure_at};
 ghost use Rattle.text_hex.specs.Hex.{hex};
 ghost use Rattle.w83782d_day.specs.Report.{summary_of};
 ghost use Rattle.w83782d_report.specs.Parts.{view_of};
 ghost use Rattle.w83782d_report_text.specs.ReportText.{reading_lines, latched_lines, report_text, text_room};
 
+use answers::answer_number;
+use figures::Figure;
 use report_text::{put_counts, put_end, put_reading};
+use text::Page;
 use text_hex::put_hex;
-use w83782d_report::Report;
+use w83782d_report::{FIGURES, Report};
 
 // Room for any report: 11 lines of at most 87 characters and two of 89, 14 of 45, and the last of 46.
 pub const TEXT_ROOM: usize = 1811;
@@ -34,56 +38,62 @@ fn index_name(index: u8) -> [u8; 2]
     ensures { result ≡ hex index }
 {
     let mut name = [0u8; 2];
-    put_hex(&mut name, 0, index);
+    let mut page = Page {
+        out: &mut name,
+        at: 0,
+    };
+    put_hex(&mut page, index);
     name
 }
 
-fn put_registers(out: &mut [u8], at: usize, samples: u64, figures: &[i64]) -> usize
-    ensures lines { Put out.old at
-        (reading_lines 11 samples figures.now) out.new result }
-    ensures short { result ≤ at + 957 }
+// The figure whose three numbers are at a place.
+fn figure_from(figures: &[i64; FIGURES], place: usize) -> Figure
+    requires { place < 37 }
+    ensures { result ≡ figure_at figures.now place }
 {
-    let mut next = at;
-    let mut i = 0;
-    while i < IN_BANK_0 {
-        let name = index_name(FIRST_REGISTER + i as u8);
-        next = put_reading(out, next, &name, samples, figures, 3 * i);
-        i += 1;
+    Figure {
+        least: figures[place],
+        greatest: figures[place + 1],
+        sum: figures[place + 2],
     }
-    next
 }
 
-fn put_readings(out: &mut [u8], at: usize, samples: u64, figures: &[i64]) -> usize
-    ensures lines { Put out.old at
-        (reading_lines 13 samples figures.now) out.new result }
-    ensures short { result ≤ at + 1135 }
+fn put_registers(page: &mut Page, samples: u64, figures: &[i64; FIGURES])
+    ensures lines { Puts page.old (reading_lines 11 samples figures.now) page.new }
+    ensures short { page.new.at ≤ page.old.at + 957 }
 {
-    let a = put_registers(out, at, samples, figures);
-    let b = put_reading(out, a, b"1.50", samples, figures, SENSOR_2);
-    put_reading(out, b, b"2.50", samples, figures, SENSOR_3)
+    // The proof has from a read that the place is a usize.
+    let _place = page.at;
+    for i in 0..IN_BANK_0 {
+        let name = index_name(FIRST_REGISTER + i as u8);
+        put_reading(page, &name, samples, figure_from(figures, 3 * i));
+    }
 }
 
-fn put_latched(out: &mut [u8], at: usize, first: &[u64], second: &[u64]) -> usize
-    requires { (length first.now ≡ 8) × (length second.now ≡ 8) }
-    ensures lines { Put out.old at (latched_lines first.now second.now)
-        out.new result }
-    ensures short { result ≤ at + 630 }
+fn put_readings(page: &mut Page, samples: u64, figures: &[i64; FIGURES])
+    ensures lines { Puts page.old (reading_lines 13 samples figures.now) page.new }
+    ensures short { page.new.at ≤ page.old.at + 1135 }
 {
-    let next = put_counts(out, at, b"41", first);
-    put_counts(out, next, b"42", &second[..BITS_OF_42])
+    put_registers(page, samples, figures);
+    put_reading(page, b"1.50", samples, figure_from(figures, SENSOR_2));
+    put_reading(page, b"2.50", samples, figure_from(figures, SENSOR_3));
+}
+
+fn put_latched(page: &mut Page, first: &[u64; 8], second: &[u64; 8])
+    ensures lines { Puts page.old (latched_lines first.now second.now) page.new }
+    ensures short { page.new.at ≤ page.old.at + 630 }
+{
+    put_counts(page, b"41", first);
+    put_counts(page, b"42", &second[..BITS_OF_42]);
 }
 
 // The whole report, as if the log ended here.
-pub fn put_report(out: &mut [u8], at: usize, report: Report) -> usize
-    ensures text { Put out.old at (report_text (summary_of (view_of report))) out.new result }
-    ensures short { result ≤ at + text_room }
+pub fn put_report(page: &mut Page, report: &Report)
+    ensures text { Puts page.old (report_text (summary_of (view_of report.now))) page.new }
+    ensures short { page.new.at ≤ page.old.at + text_room }
 {
-    let figures = report.figures;
-    let first = report.first;
-    let second = report.second;
     let tally = report.tally;
-    let answer = report.answer();
-    let a = put_readings(out, at, tally.samples, &figures);
-    let b = put_latched(out, a, &first, &second);
-    put_end(out, b, answer, tally.accepted)
+    put_readings(page, tally.samples, &report.figures);
+    put_latched(page, &report.first, &report.second);
+    put_end(page, answer_number(report.answer()), tally.accepted);
 }

@@ -7,12 +7,11 @@ use mathlib.Core.Path.{◌≡◌, refl, sym, ap, ◌∙◌}
 use mathlib.Core.Bool.{Bool, true, false}
 use mathlib.Core.List.{List, [], ◌∷◌, ◌++◌, append_assoc}
 use borrow.Author.Tests.{leb-true, leb-false}
-use native.Mathlib.Numerals.{add-one}
 use lib.Dec.{leb}
-use lib.ListN.{take-append-drop, drop, length, length-append, length-set, set, get_or, take}
+use lib.ListN.{take-append-drop, drop, length, length-append, length-set, set, take}
 use Rattle.std.proofs.lemmas.List.{drop_all, drop-drop}
 use borrow.Rule.Slice.PartMut.{put_mid}
-use lib.Seq.{sets-eq, length-take-le, sets, set_out, length-sets, take-suc}
+use lib.Seq.{sets-eq, length-take-le, sets, set_out, length-sets}
 use Rattle.text.specs.Text.{last_place, Put}
 use Rattle.text.specs.Pages.{Puts}
 use Rattle.text.specs.declared.Page.{Page}
@@ -57,11 +56,6 @@ f then g = record { put = joined f.put g.put; same = g.same ∙ f.same }
 -- a buffer keeps its length
 pub put_length : (o p : List ℕ) (at n : ℕ) (w : List ℕ) → Put o at w p n → length p ≡ length o
 put_length o p at n w f = ap length f.bytes ∙ simp length-sets
-
--- one byte more of a word
-pub put_more : (o p q : Page) (i : ℕ) (w : List ℕ) → i < length w → Puts o (take i w) p
-    → Puts p (get_or w i 0 ∷ []) q → Puts o (take (i + 1) w) q
-put_more o p q i w h f g = rw (add-one, take-suc w i 0) (f then g)
 
 -- a part of a word that goes to the word's end or to the buffer's is all that is put of it
 part_rest : (p w : List ℕ) (at k : ℕ) → k ≡ min (length w) (length p - at) → sets p (at + k) (drop k w) ≡ p

@@ -24,17 +24,19 @@ fn cell_of(index: u8, bank: u8) -> Option<usize>
     ensures { result ≡ cell_or_none (cell_of bank index) }
 {
     let i = usize::from(index);
+    if i < 0x20 || 0x7f < i {
+        return None;
+    }
     match i {
-        0x20..=0x4f => Some(i - 0x20),
-        0x50..=0x5f => match bank {
+        0x60.. => Some(i - 0x60),
+        0x50.. => match bank {
             0 => Some(i - 0x20),
             1 => Some(i - 0x10),
             2 => Some(i),
             4 => Some(i + 0x10),
             _ => None,
         },
-        0x60..=0x7f => Some(i - 0x60),
-        _ => None,
+        _ => Some(i - 0x20),
     }
 }
 

@@ -50,6 +50,11 @@ impl<'a> Page<'a> {
     pub fn put_decimal(&mut self, n: u64)
         ensures { Puts self.old (decimal n) self.new }
     {
+        // One digit needs no buffer, and most numbers that programs print have one.
+        if n < 10 {
+            self.put_byte(last_digit(n));
+            return;
+        }
         let mut digits = [0; DIGITS];
         let mut first = DIGITS - 1;
         let mut rest = n;

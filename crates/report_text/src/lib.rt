@@ -31,8 +31,8 @@ fn put_extreme(page: &mut Page, samples: u64, z: i64)
     }
 }
 
-// The line of a reading: name, samples, least, greatest, sum; without samples the least and the greatest are "-". Beside
-// its name: four numbers, each after a space, and the line's end.
+// The line of a reading: name, samples, least, greatest, sum; without samples the least and the greatest are "-".
+// Beside its name: four numbers, each after a space, and the line's end.
 pub fn put_reading(page: &mut Page, name: &[u8], samples: u64, figure: Figure)
     ensures line { Puts page.old (reading_line name.now samples figure) page.new }
     ensures short { page.new.at ≤ page.old.at + (length name.now + 85) }

@@ -1,5 +1,5 @@
-// The 28 lines of the report of a day, put on a page: the figures of each reading, how often each bit of 41h and 42h was
-// latched, and the end.
+// The 28 lines of the report of a day, put on a page: the figures of each reading, how often each bit of 41h and 42h
+// was latched, and the end.
 #![tactic(auto)]
 
 ghost use Rattle.std.specs.Prelude.{◌≡◌, ◌+◌, ◌≤◌, ◌<◌};

@@ -15,6 +15,7 @@ returns c =
     let g : SFits w64 figure.greatest = record { sfits = search rules } in
     let s : SFits w64 figure.sum = record { sfits = search rules } in
     let line =
-    put_reading_line _ figure l g s c.put_bytes.ensures c.put_spaced.ensures c.put_extreme.ensures c.put_extreme-2.ensures
-    c.put_signed_number.ensures c.put_byte.ensures in
-    record { line = line; short = omega (arith, place_short _ _ _ _ line (reading_short _ _ figure c.ranges.samples l g s)) }
+    put_reading_line _ figure l g s c.put_bytes.ensures c.put_spaced.ensures c.put_extreme.ensures
+    c.put_extreme-2.ensures c.put_signed_number.ensures c.put_byte.ensures in
+    let short = reading_short _ _ figure c.ranges.samples l g s in
+    record { line = line; short = omega (arith, place_short _ _ _ _ line short) }

@@ -30,7 +30,7 @@ pub struct Undivided(pub u32);
 #[derive(Clone, Copy)]
 pub struct Divided(pub u8);
 
-// One of the eight divisors. Its three bits are its discriminant, the power of 2 that it divides by.
+// One of the eight divisors. Its three bits are its discriminant, the exponent of the power of 2 that it divides by.
 #[derive(Clone, Copy, PartialEq, Eq, Debug)]
 pub enum Divisor {
     By1 = 0,
@@ -43,7 +43,7 @@ pub enum Divisor {
     By128 = 7,
 }
 
-// A divisor and a limit that ring from a speed on; one that was planned has a limit of 0 to 254.
+// A divisor and a limit, which ring at a speed and below; one that was planned has a limit of 0 to 254.
 #[derive(Clone, Copy, PartialEq, Eq, Debug)]
 pub struct Plan {
     pub divisor: Divisor,

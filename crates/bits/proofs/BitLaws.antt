@@ -48,6 +48,10 @@ bit_placed = same_below2 2 8 (λ d j. bit (d * 2 ^ j) j) (λ d j. d) tt
 pub low_digit : (x : ℕ) → bit_and x 1 ≡ x % 2
 low_digit x = and_mask x 1
 
+-- one bit shifted up stays within the byte
+pub shifted : (d j : ℕ) → d < 2 → j < 8 → d * 2 ^ j % 256 ≡ d * 2 ^ j
+shifted = same_below2 2 8 (λ d j. d * 2 ^ j % 256) (λ d j. d * 2 ^ j) tt
+
 -- ---- masks, bit by bit
 -- an operation f that keeps bits apart does to each bit what it does to one
 bit_by_bit : (f g : ℕ → ℕ → ℕ) → ((a b k : ℕ) → f a b / 2 ^ k ≡ f (a / 2 ^ k) (b / 2 ^ k))

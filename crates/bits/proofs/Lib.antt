@@ -7,3 +7,4 @@ pub mod Tables
 pub mod Restored
 pub mod Flags
 pub mod Stores
+pub mod PutAll

@@ -3,6 +3,7 @@
 #![tactic(auto)]
 
 ghost use Rattle.std.specs.Prelude.{◌≡◌, [], ◌∷◌, get_or, set};
+ghost use Rattle.std.proofs.lemmas.List.Edits.{sets};
 ghost use Rattle.bits.specs.Bits.{bit, number_of, is_on, in_set, merge_of, change, changes, flag_of, word};
 
 pub mod fields;
@@ -87,6 +88,19 @@ pub fn put(s: &mut [u8], at: usize, byte: u8)
 {
     if at < s.len() {
         s[at] = byte;
+    }
+}
+
+// Bytes stored from a cell on, as far as the slice goes. Each is tested by itself: of a copy of slices, and of a loop
+// that is one, the compiler makes a call of memcpy, which no archive for C is to need.
+pub fn put_all(s: &mut [u8], at: usize, bytes: &[u8])
+    ensures { s.new ≡ sets s.old at bytes.now }
+{
+    if s.len() <= at {
+        return;
+    }
+    for i in 0..bytes.len() {
+        put(s, at + i, bytes[i]);
     }
 }
 

@@ -38,14 +38,14 @@ unfolding signed signed_places places
 no_places (pos n) = refl
 no_places (negsuc n) = refl
 
-pub put_below : (k : ℕ) (z : ℤ) (o p q : Page) → lt_z z (pos 0) ≡ true → Puts o (45 ∷ []) p
-    → Puts p (places k (nat_abs z)) q → Puts o (signed_places k z) q
+pub put_below : (k n : ℕ) (z : ℤ) (o p q : Page) → lt_z z (pos 0) ≡ true → Puts o (45 ∷ []) p
+    → Puts p (places k n) q → n ≡ nat_abs z → Puts o (signed_places k z) q
 unfolding signed_places
-put_below k (pos n) o p q h f g = absurd (omega (arith, ltb-true n 0 h))
-put_below k (negsuc n) o p q h f g = f then g
+put_below k n (pos m) o p q h f g e = absurd (omega (arith, ltb-true m 0 h))
+put_below k n (negsuc m) o p q h f g e = f then rw e at g
 
-pub put_above : (k : ℕ) (z : ℤ) (o q : Page) → lt_z z (pos 0) ≡ false → Puts o (places k (nat_abs z)) q
+pub put_above : (k n : ℕ) (z : ℤ) (o q : Page) → lt_z z (pos 0) ≡ false → Puts o (places k n) q → n ≡ nat_abs z
     → Puts o (signed_places k z) q
 unfolding signed_places
-put_above k (pos n) o q h g = g
-put_above k (negsuc n) o q h g = let x : ◌≡◌ {A = ℕ} 0 1 = cc in absurd (omega arith)
+put_above k n (pos m) o q h g e = rw e at g
+put_above k n (negsuc m) o q h g e = let x : ◌≡◌ {A = ℕ} 0 1 = cc in absurd (omega arith)

@@ -8,6 +8,8 @@ ghost use Rattle.std.specs.Prelude.{◌≡◌, [], ◌∷◌};
 ghost use Rattle.text.specs.Pages.{Puts};
 ghost use Rattle.text.specs.Numbers.{digit, decimal, spaced, places, pointed, signed, signed_places};
 
+use bits::put_all;
+
 // A number of 64 bits has no more digits.
 const DIGITS: usize = 20;
 
@@ -39,10 +41,7 @@ impl<'a> Page<'a> {
     pub fn put_bytes(&mut self, word: &[u8])
         ensures { Puts self.old word.now self.new }
     {
-        if self.at < self.out.len() {
-            let fits = word.len().min(self.out.len() - self.at);
-            self.out[self.at..self.at + fits].copy_from_slice(&word[..fits]);
-        }
+        put_all(self.out, self.at, word);
         self.at = self.at.saturating_add(word.len());
     }
 

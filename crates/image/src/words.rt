@@ -1,22 +1,30 @@
 // Answers and values as one word each, for C: an answer number in the high bits, what it carries below.
 ghost use Rattle.std.specs.Prelude.{◌≡◌};
+ghost use Rattle.image.specs.Image.{read_word};
 ghost use Rattle.image.specs.Words.{answer_word, wide_word, plan_word, speed_word, SpeedWords};
 
 use answers::Refusal;
 use fan::{Plan, Speed};
 
 // A top byte's 1 in a speed's word, and what the top byte adds to the answer when refused.
-const TOP_BYTE: u32 = 0x100_0000;
+pub const TOP_BYTE: u32 = 0x100_0000;
 
-const REFUSED: u32 = 0x80;
+pub const REFUSED: u32 = 0x80;
 
-// An answer and a byte as one word: answer * 256 + byte, which is 0 when refused.
-pub fn word(answer: Result<u8, Refusal>) -> u16
+// An answer's number and a byte as one word: answer * 256 + byte.
+pub fn word(answer: u8, byte: u8) -> u16
+    ensures { result ≡ read_word answer byte }
+{
+    (answer as u16) * 256 + (byte as u16)
+}
+
+// The word of an answer that carries a byte, which is 0 when refused.
+pub fn answer_word(answer: Result<u8, Refusal>) -> u16
     ensures { result ≡ answer_word answer }
 {
     match answer {
-        Ok(byte) => byte as u16,
-        Err(refusal) => (refusal.number() as u16) * 256,
+        Ok(byte) => word(0, byte),
+        Err(refusal) => word(refusal.number(), 0),
     }
 }
 

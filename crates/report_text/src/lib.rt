@@ -5,7 +5,8 @@
 // bits has at most 20 characters, with its sign.
 #![tactic(auto)]
 
-ghost use Rattle.std.specs.Prelude.{◌+◌, ◌*◌, ◌≤◌, length};
+ghost use Rattle.std.specs.Prelude.{◌≡◌, ◌+◌, ◌*◌, ◌≤◌, pos, length, get_or};
+ghost use Rattle.figures.specs.Figure.{figure_at};
 ghost use Rattle.text.specs.Pages.{Puts};
 ghost use Rattle.report_text.specs.Lines.{spaced_signed, extreme, reading_line};
 ghost use Rattle.report_text.specs.Lines.{count_line, count_lines, end_line};
@@ -33,7 +34,7 @@ fn put_extreme(page: &mut Page, samples: u64, z: i64)
 
 // The line of a reading: name, samples, least, greatest, sum; without samples the least and the greatest are "-".
 // Beside its name: four numbers, each after a space, and the line's end.
-pub fn put_reading(page: &mut Page, name: &[u8], samples: u64, figure: Figure)
+pub fn put_figure(page: &mut Page, name: &[u8], samples: u64, figure: Figure)
     ensures line { Puts page.old (reading_line name.now samples figure) page.new }
     ensures short { page.new.at ≤ page.old.at + (length name.now + 85) }
 {
@@ -43,6 +44,36 @@ pub fn put_reading(page: &mut Page, name: &[u8], samples: u64, figure: Figure)
     put_extreme(page, samples, figure.greatest);
     put_signed_number(page, figure.sum);
     page.put_byte(b'\n');
+}
+
+// The number that is so many places behind a place, or 0 where the slice has none. The sum of both may be more than a
+// usize holds.
+fn number_at(numbers: &[i64], place: usize, more: usize) -> i64
+    ensures { result ≡ get_or numbers.now (place + more) (pos 0) }
+{
+    match place.checked_add(more) {
+        Some(there) if there < numbers.len() => numbers[there],
+        _ => 0,
+    }
+}
+
+// The figure whose three numbers are in a slice from a place on. They are 0 beyond it.
+pub fn figure_from(figures: &[i64], place: usize) -> Figure
+    ensures { result ≡ figure_at figures.now place }
+{
+    Figure {
+        least: number_at(figures, place, 0),
+        greatest: number_at(figures, place, 1),
+        sum: number_at(figures, place, 2),
+    }
+}
+
+// The same line of the figure in a slice from a place on.
+pub fn put_reading(page: &mut Page, name: &[u8], samples: u64, figures: &[i64], place: usize)
+    ensures line { Puts page.old (reading_line name.now samples (figure_at figures.now place)) page.new }
+    ensures short { page.new.at ≤ page.old.at + (length name.now + 85) }
+{
+    put_figure(page, name, samples, figure_from(figures, place));
 }
 
 // The line of one bit of a register: both, and the count. Beside the register: a point, two numbers, the second after a

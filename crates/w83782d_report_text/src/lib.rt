@@ -10,9 +10,8 @@ ghost use Rattle.w83782d_day.specs.Report.{summary_of};
 ghost use Rattle.w83782d_report.specs.Parts.{view_of};
 ghost use Rattle.w83782d_report_text.specs.ReportText.{reading_lines, latched_lines, report_text, text_room};
 
-use answers::answer_number;
 use figures::Figure;
-use report_text::{put_counts, put_end, put_reading};
+use report_text::{put_counts, put_end, put_figure};
 use text::Page;
 use text_hex::put_hex;
 use w83782d_report::{FIGURES, Report};
@@ -66,7 +65,7 @@ fn put_registers(page: &mut Page, samples: u64, figures: &[i64; FIGURES])
     let _place = page.at;
     for i in 0..IN_BANK_0 {
         let name = index_name(FIRST_REGISTER + i as u8);
-        put_reading(page, &name, samples, figure_from(figures, 3 * i));
+        put_figure(page, &name, samples, figure_from(figures, 3 * i));
     }
 }
 
@@ -75,8 +74,8 @@ fn put_readings(page: &mut Page, samples: u64, figures: &[i64; FIGURES])
     ensures short { page.new.at ≤ page.old.at + 1135 }
 {
     put_registers(page, samples, figures);
-    put_reading(page, b"1.50", samples, figure_from(figures, SENSOR_2));
-    put_reading(page, b"2.50", samples, figure_from(figures, SENSOR_3));
+    put_figure(page, b"1.50", samples, figure_from(figures, SENSOR_2));
+    put_figure(page, b"2.50", samples, figure_from(figures, SENSOR_3));
 }
 
 fn put_latched(page: &mut Page, first: &[u64; 8], second: &[u64; 8])
@@ -95,5 +94,5 @@ pub fn put_report(page: &mut Page, report: &Report)
     let tally = report.tally;
     put_readings(page, tally.samples, &report.figures);
     put_latched(page, &report.first, &report.second);
-    put_end(page, answer_number(report.answer()), tally.accepted);
+    put_end(page, report.answer(), tally.accepted);
 }

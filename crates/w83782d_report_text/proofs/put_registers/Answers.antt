@@ -8,7 +8,7 @@ loop-i-init c = (no_line _ _ _ (omega arith) (omega arith), omega arith)
 
 pub loop-i-preserved : goal.loop-i-preserved
 loop-i-preserved c =
-    let line = rw c.figure_from.ensures at c.put_reading.ensures.line in
+    let line = rw c.figure_from.ensures at c.put_figure.ensures.line in
     (one_line _ _ _ _ _ _ _ (search rules) c.loop-i.invariant.0 c.index_name-name.ensures line, search rules)
 
 pub returns : goal.returns

@@ -1,4 +1,3 @@
-use mathlib.Core.Path.{◌∙◌}
 use native.Mathlib.Omega.{arith}
 use Rattle.w83782d_report.specs.Parts.{view_of}
 use Rattle.w83782d_report_text.proofs.Lines.{all_lines}
@@ -8,7 +7,7 @@ pub returns : goal.returns
 returns c =
     record {
       text =
-          all_lines _ _ _ (view_of c.args.report.now) _ _ (c.answer_number.ensures ∙ c.answer.ensures)
+          all_lines _ _ _ (view_of c.args.report.now) _ _ c.answer.ensures
           c.put_readings.ensures.lines c.put_latched.ensures.lines c.put_end.ensures.line;
       short =
           omega (arith, c.put_readings.ensures.short, c.put_latched.ensures.short, c.put_end.ensures.short);

@@ -6,7 +6,7 @@ use mir.Val.{SFits}
 use Rattle.report_text.proofs.Joined.{put_reading_line}
 use Rattle.report_text.proofs.Short.{reading_short, place_short}
 use borrow.Author.Rules.{rules}
-use Rattle.report_text.proofs.put_reading.Goals as goal
+use Rattle.report_text.proofs.put_figure.Goals as goal
 
 pub returns : goal.returns
 returns c =

@@ -19,7 +19,10 @@ pub extern "C" fn w83782d_report(log: &[u8], text: &mut [u8]) -> usize
         text.new result }
     ensures short { result ≤ text_room }
 {
-    let report = Report::start().feed(log);
+    // In place from the first: a report that is handed on whole is copied by memcpy.
+    let mut report = Report::blank();
+    report.restart();
+    report.feed_in(log);
     let mut page = Page { out: text, at: 0 };
     put_report(&mut page, &report);
     page.at

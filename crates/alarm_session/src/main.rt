@@ -23,8 +23,13 @@
 use answers::{Refusal, answer_number};
 use fan::Undivided;
 use std::io;
+use text::Page;
+use text_hex::put_small_hex;
 use w83782d::Monitor;
 use w83782d_layout::samples::Sample;
+
+// A line has a hundred bytes or so.
+const LINE_ROOM: usize = 4096;
 
 #[derive(Drop)]
 struct Session<'a, R> {
@@ -37,30 +42,46 @@ fn shown(m: Monitor, bank: u8, index: u8) -> u8 {
     m.write(0x4e, bank).monitor.look(index).answer.unwrap_or(0)
 }
 
+// A byte in base 16 behind a label.
+fn put_shown(page: &mut Page, label: &[u8], byte: u8) {
+    page.put_bytes(label);
+    put_small_hex(page, byte);
+}
+
 impl<R: Print> Session<'_, R> {
     // The answer, the registers that a plan writes, the three limits, and which fans' real-time bits are set.
-    fn report(&self, name: &str, answer: Result<(), Refusal>) -> io::Result<()> {
+    fn put_report(&self, page: &mut Page, name: &str, answer: Result<(), Refusal>) {
         let at = |bank: u8, index: u8| shown(self.monitor, bank, index);
-        let rings = |index: u8, mask: u8| u8::from(at(4, index) & mask != 0);
-        print!(self.rt; "{name}: answer {}", answer_number(answer))?;
-        print!(self.rt;
-            ", 47h {:02x}, 4Bh {:02x}, 5Dh {:02x}",
-            at(0, 0x47),
-            at(0, 0x4b),
-            at(0, 0x5d)
-        )?;
-        print!(self.rt;
-            ", limits {:02x} {:02x} {:02x}",
-            at(0, 0x3b),
-            at(0, 0x3c),
-            at(0, 0x3d)
-        )?;
-        println!(self.rt;
-            ", rings {} {} {}",
-            rings(0x59, 0x40),
-            rings(0x59, 0x80),
-            rings(0x5a, 0x08)
-        )
+        let rings = |index: u8, mask: u8| u64::from(at(4, index) & mask != 0);
+        page.put_bytes(name.as_bytes());
+        page.put_bytes(b": answer");
+        page.put_spaced(u64::from(answer_number(answer)));
+        put_shown(page, b", 47h ", at(0, 0x47));
+        put_shown(page, b", 4Bh ", at(0, 0x4b));
+        put_shown(page, b", 5Dh ", at(0, 0x5d));
+        put_shown(page, b", limits ", at(0, 0x3b));
+        put_shown(page, b" ", at(0, 0x3c));
+        put_shown(page, b" ", at(0, 0x3d));
+        page.put_bytes(b", rings");
+        page.put_spaced(rings(0x59, 0x40));
+        page.put_spaced(rings(0x59, 0x80));
+        page.put_spaced(rings(0x5a, 0x08));
+        page.put_byte(b'\n');
+    }
+
+    // One line, by one write.
+    fn report(&self, name: &str, answer: Result<(), Refusal>) -> io::Result<()> {
+        let mut line = [0u8; LINE_ROOM];
+        let mut page = Page {
+            out: &mut line,
+            at: 0,
+        };
+        self.put_report(&mut page, name, answer);
+        let end = page.at;
+        if end > LINE_ROOM {
+            return Ok(());
+        }
+        self.rt.write_all(&line[..end])
     }
 
     fn plan(&mut self, name: &str, fan: u8, rpm: u32) -> io::Result<()> {

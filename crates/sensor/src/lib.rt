@@ -67,11 +67,12 @@ impl Remote {
     }
 }
 
-// Whether a mark is hot.
+// Whether a mark is hot. By a match: an equality compares the whole byte that holds the mark, and the flags of an image
+// are then put together one by one.
 pub fn is_hot(mark: Mark) -> bool
     ensures { result ≡ is_hot mark }
 {
-    mark == Mark::Hot
+    matches!(mark, Mark::Hot)
 }
 
 // The mark that is hot or armed; in comparator mode hot is above.

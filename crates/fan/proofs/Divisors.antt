@@ -1,7 +1,7 @@
 -- The eight divisors: the exponent is below 8, and exponent, value and three bits each say which divisor it is.
 -- By the eight cases; bounds are those of powers of 2. Assumes nothing.
-use Prim.Native.Nat.{ℕ, ◌%◌, ◌^◌, ◌≤◌, ◌<◌}
-use native.Mathlib.Nat.{mod-mod, mod-lt}
+use Prim.Native.Nat.{ℕ, ◌*◌, ◌%◌, ◌^◌, ◌≤◌, ◌<◌}
+use native.Mathlib.Nat.{mul-le-mul, mod-mod, mod-lt}
 use native.Mathlib.Decide.{dec_lt}
 use native.Mathlib.Omega.{arith}
 use mathlib.Core.Path.{◌≡◌, refl, sym, ap, ◌∙◌}
@@ -28,6 +28,10 @@ value_pos d = pow_pos (exponent_of d)
 
 pub value_le : (d : Divisor) → value_of d ≤ 128
 value_le d = pow_mono {i = exponent_of d} {j = 7} (omega (arith, exponent_lt d))
+
+-- a byte, or a byte and one, times a divisor
+pub product_le : (n : ℕ) (d : Divisor) → n ≤ 256 → n * value_of d ≤ 32768
+product_le n d h = mul-le-mul {n₂ = 256} {m₂ = 128} h (value_le d)
 
 -- three bits that were read back
 pub exponent_from_bits : (k : ℕ) → k < 8 → exponent_of (from_bits k) ≡ k

@@ -7,7 +7,7 @@ use Prim.Native.Nat.{ℕ, ◌+◌, ◌-◌, ◌≤◌}
 use native.Mathlib.Omega.{arith}
 use borrow.Author.Tests.{eq-eqb, ne_eqb}
 use lib.Dec.{eqb}
-use lib.ListN.{length, get_or, take, drop, drop_of_length-le, length-append, length-drop}
+use lib.ListN.{length, get_or, take, drop, take-append-drop, drop_of_length-le, length-append, length-drop}
 use lib.Seq.{sets, sets-eq, length-sets, get_or-append-add, get_or-drop}
 use lib.Seq.{take_at, drop_at, drop-append-add, drop-drop, length-take-le}
 use Rattle.bits.specs.Bits.{choose, flag_of}
@@ -71,6 +71,10 @@ module _ (y : Layout) (fit : y.cells + y.beside ≤ y.size) (im : List ℕ) (h :
       let r : y.cells + (p - y.cells) ≡ p = omega arith in
       ap (λ (k : ℕ). get_or (with_cells y im ts) k 0) (sym q) ∙ get_or-append-add ts (drop y.cells im) (p - y.cells) 0
       ∙ get_or-drop y.cells im (p - y.cells) 0 ∙ ap (λ (k : ℕ). get_or im k 0) r
+
+  -- the same cells put back leave every byte
+  pub same_cells : (ts : List ℕ) → ts ≡ cells_in y im → with_cells y im ts ≡ im
+  same_cells ts e = ap (λ (u : List ℕ). with_cells y im u) e ∙ take-append-drop y.cells im
 
   -- ---- an image whose bytes beside the cells were stored
   module _ (bs t : List ℕ) (n : length bs ≡ y.beside) (e : t ≡ put_in y im y.cells bs) where

@@ -24,7 +24,7 @@ pub present_out : (c : ℕ) → cells ≤ c → false ≡ present_at c
 unfolding present_at
 present_out c h = simp (le-ltb c cells h)
 
-kept_out : (c : ℕ) → cells ≤ c → false ≡ kept_at c
+pub kept_out : (c : ℕ) → cells ≤ c → false ≡ kept_at c
 unfolding kept_at kept_by_reset
 kept_out c h =
     simp (

@@ -235,7 +235,7 @@ evaluation rs l c d one two three r1 r2 x1 x2 l1 l2 h e e1 e2 e3 f1 f2 y1 y2 g1 
     (rw k at f1) (rw k at f2) (rw k at y1) (rw k at y2) g1 g2)
 
 -- ---- four stores are the list of status_stores
-status_set : (rs : List ℕ) (l : Latches) (j : Evaluation) → Evaluates rs l j
+pub status_set : (rs : List ℕ) (l : Latches) (j : Evaluation) → Evaluates rs l j
     → with_status rs j.real j.latched ≡ status_registers rs l
 unfolding with_status status_registers
 status_set rs l j e = rw (e.real, e.latched)

@@ -1,6 +1,6 @@
 -- What nearest with halves up means, as a quotient rounded down lies within one divisor; and how large it gets.
 -- Assumes nothing.
-use Rattle.std.proofs.Common.{◌≡◌, ℕ, ◌+◌, ◌*◌, ◌/◌, ◌<◌, ◌≤◌, sym, ap, ◌∙◌, subst, mul_assoc, suc-mul, mul_comm, div-lt_iff_lt-mul, pos_of_ne-zero, le-mul_of_pos_right, div-mul-le_self, add-one, arith}
+use Rattle.std.proofs.Common.{◌≡◌, ℕ, ◌+◌, ◌*◌, ◌/◌, ◌<◌, ◌≤◌, sym, ap, ◌∙◌, subst, mul_assoc, suc-mul, mul_comm, div-lt_iff_lt-mul, pos_of_ne-zero, div-le_self, le-mul_of_pos_right, div-mul-le_self, add-one, arith}
 use native.Mathlib.Nat.{lt-mul-div-succ}
 use native.Mathlib.Nat.{div-zero}
 use Rattle.numbers.specs.Rounding.{nearest, Nearest}
@@ -18,6 +18,10 @@ nearest_holds n d h =
           (lt-mul-div-succ (2 * n + d) {b = 2 * d} (omega arith));
       at_least = rw doubled (div-mul-le_self (2 * n + d) (2 * d));
     }
+
+pub nearest_le : (n d : ℕ) → nearest n d ≤ 2 * n + d
+unfolding nearest
+nearest_le n d = div-le_self (2 * n + d) (2 * d)
 
 pub by_zero : (n d : ℕ) → d ≡ 0 → 0 ≡ nearest n d
 unfolding nearest

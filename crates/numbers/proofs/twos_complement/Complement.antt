@@ -106,7 +106,7 @@ pub byte_holds : (z : ℤ) → SFits w8 z → holds half8 z ≡ true
 byte_holds (pos n) f = lt-ltb n half8 f.sfits
 byte_holds (negsuc n) f = lt-ltb n half8 f.sfits
 
-holds_byte : (z : ℤ) → holds half8 z ≡ true → SFits w8 z
+pub holds_byte : (z : ℤ) → holds half8 z ≡ true → SFits w8 z
 holds_byte (pos n) e = record { sfits = ltb-true n half8 e }
 holds_byte (negsuc n) e = record { sfits = ltb-true n half8 e }
 

@@ -19,7 +19,8 @@ pub extern "C" fn w83782d_report(log: &[u8], text: &mut [u8]) -> usize
         text.new result }
     ensures short { result ≤ text_room }
 {
-    // In place from the first: a report that is handed on whole is copied by memcpy.
+    // In place from the first: `start` and `feed` hand on a whole report, which is copied by memcpy. A blank one is made
+    // where it is kept.
     let mut report = Report::blank();
     report.restart();
     report.feed_in(log);

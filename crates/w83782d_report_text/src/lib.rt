@@ -45,7 +45,7 @@ fn index_name(index: u8) -> [u8; 2]
     name
 }
 
-// The figure whose three numbers are at a place.
+// The figure whose three numbers are at a place of the array: unlike that of `report_text` it tests no place.
 fn figure_from(figures: &[i64; FIGURES], place: usize) -> Figure
     requires { place < 37 }
     ensures { result ≡ figure_at figures.now place }
